@@ -1,0 +1,3 @@
+// Why a call is refused: one type for every layer.
+pub mod fault;
+pub mod names;
