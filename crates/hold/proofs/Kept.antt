@@ -19,7 +19,6 @@ use Rattle.std.specs.declared.result.Result.{Result}
 use Rattle.std.specs.declared.result.Result.the-variants.{Ok, Err}
 use Rattle.std.specs.shelf.Lists.{All}
 use Rattle.faults.specs.declared.fault.Fault.{Fault}
-use Rattle.hold.specs.declared.fault.Fault.the-variants.{Past}
 use Rattle.store.specs.Rules.{NoGain, Gain, Gained, Alone, Answered, written, filled, Grown}
 use Rattle.hold.specs.Kept.{tagged, kept, slot-of, over, byte, overlaid, with-kept, Quiet, Put}
 use Rattle.hold.specs.KeptLaws.{length-overlaid, getD-overlaid, byte-kept, byte-below, sector-below, with-seen, with-cases, with-below, with-free}
