@@ -1,16 +1,16 @@
--- Laws of bytes replaced one after the other, and as far as there is room. Assumes nothing.
+-- Laws of bytes replaced one after the other, as far as there is room, and sector by sector. Assumes nothing.
 use mathlib.Core.Path.{_≡_, refl, sym, ap, _∙_}
 use mathlib.Core.List.{List, [], _∷_, _++_}
 use mathlib.Core.Logic.{_⊎_, inl, inr, ⊎-elim}
-use Prim.Native.Nat.{ℕ, _+_, _-_, _*_, _≤_, _<_, min}
+use Prim.Native.Nat.{ℕ, _+_, _-_, _*_, _/_, _%_, _≤_, _<_, min}
 use native.Mathlib.Omega.{arith}
 use lib.Seq.{take-add}
 use lib.ListN.{length, getD, take, drop, length-take, length-drop, length-append, take-append-drop}
-use Rattle.std.proofs.shelf.Lists.{ext-getD, getD-append-left, getD-append-right, getD-take, drop-drop, nil-from-length}
+use Rattle.std.proofs.shelf.Lists.{ext-getD, getD-append-left, getD-append-right, getD-take, getD-drop, drop-drop, nil-from-length}
 use Rattle.std.proofs.shelf.Tests.{cases-lt}
 use borrow.Rule.Slice.PartMut.{putMid}
-use Rattle.bytes.specs.Sectors.{patched, laid}
-use Rattle.bytes.proofs.Patches.{length-patched, getD-patched-below, getD-patched-in, getD-patched-above}
+use Rattle.bytes.specs.Sectors.{sector, patched, laid}
+use Rattle.bytes.proofs.Patches.{length-patched, getD-patched-below, getD-patched-in, getD-patched-above, getD-sector}
 
 pub none-patched : (xs : List ℕ) (p : ℕ) (ys : List ℕ) → length ys ≡ 0 → patched xs p ys ≡ xs
 unfolding patched
@@ -93,3 +93,26 @@ patched-more xs p ys n m h fit =
     ap (λ (k : ℕ). patched (patched xs p (take n ys)) k (take m (drop n ys))) (let q : p + n ≡ p + length (take n ys) = omega arith in q)
     ∙ patched-append xs p (take n ys) (take m (drop n ys)) (omega arith)
     ∙ ap (patched xs p) (sym (take-add n m ys))
+
+-- what was put in stands there
+pub patched-here : (xs : List ℕ) (p : ℕ) (ys : List ℕ) → p + length ys ≤ length xs → take (length ys) (drop p (patched xs p ys)) ≡ ys
+patched-here xs p ys h =
+    let n = length-patched xs p ys h in
+    let u = length-drop p (patched xs p ys) in
+    let v = length-take (length ys) (drop p (patched xs p ys)) in
+    ext-getD 0 _ _ (omega arith) (λ i l.
+    let m : i < length ys = omega arith in
+    getD-take (length ys) (drop p (patched xs p ys)) i 0 m
+    ∙ getD-drop p (patched xs p ys) i 0
+    ∙ getD-patched-in xs p ys (p + i) 0 (omega arith) (omega arith) (omega arith)
+    ∙ ap (λ (k : ℕ). getD ys k 0) (let e : p + i - p ≡ i = omega arith in e))
+
+-- bytes of one length are alike where each sector is
+pub sectors-alike : (xs ys : List ℕ) → length xs ≡ length ys → ((s : ℕ) → sector xs s ≡ sector ys s) → xs ≡ ys
+sectors-alike xs ys n h =
+    ext-getD 0 xs ys n (λ i l.
+    let e : 512 * (i / 512) + i % 512 ≡ i = omega arith in
+    let m : i % 512 < 512 = omega arith in
+    ap (λ (k : ℕ). getD xs k 0) (sym e) ∙ sym (getD-sector xs (i / 512) (i % 512) 0 m)
+    ∙ ap (λ (zs : List ℕ). getD zs (i % 512) 0) (h (i / 512))
+    ∙ getD-sector ys (i / 512) (i % 512) 0 m ∙ ap (λ (k : ℕ). getD ys k 0) e)

@@ -10,11 +10,11 @@ ghost use Rattle.hold.specs.KeptLaws.{kept-laws};
 ghost use Rattle.store.specs.Rules.{Answered, written, NoGain, Gain, Gained, Alone};
 ghost use Rattle.std.specs.Results.{isOk};
 ghost use Rattle.bytes.specs.Sectors.{laid};
+use self::slots::Table;
+use self::slots::first_byte;
 use faults::fault::Check;
 use faults::fault::Fault;
 use store::slices::within;
-use self::slots::Table;
-use self::slots::first_byte;
 use store::traits::Card;
 use store::traits::Store;
 
