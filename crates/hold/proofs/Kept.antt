@@ -20,11 +20,11 @@ use Rattle.std.specs.declared.result.Result.the-variants.{Ok, Err}
 use Rattle.std.specs.shelf.Lists.{All}
 use Rattle.faults.specs.declared.fault.Fault.{Fault}
 use Rattle.store.specs.Rules.{NoGain, Gain, Gained, Alone, Answered, written, filled, Grown}
-use Rattle.hold.specs.Kept.{tagged, kept, slot-of, over, byte, overlaid, with-kept, Quiet, Put}
+use Rattle.hold.specs.Kept.{tagged, kept, slot-of, One-in-eight, over, byte, overlaid, with-kept, Quiet, Put}
 use Rattle.hold.specs.KeptLaws.{length-overlaid, getD-overlaid, byte-kept, byte-below, sector-below, with-seen, with-cases, with-below, with-free}
 use Rattle.bytes.proofs.Patches.{length-patched, getD-patched-below, getD-patched-in, getD-patched-above, patched-same, sector-untouched}
 use Rattle.bytes.proofs.Contents.{in-same}
-use Rattle.bytes.proofs.Laid.{none-patched, length-laid, laid-out, laid-in, patched-out, patched-more}
+use Rattle.bytes.proofs.Laid.{none-patched, length-laid, laid-out, laid-in, patched-out, patched-more, sectors-alike}
 use Rattle.store.proofs.Changes.{touched-or, nogain-trans, grown-more}
 
 -- a slot that is set
@@ -211,6 +211,16 @@ length-quiet slots slots′ below below′ e = sym (length-overlaid slots′ bel
 one-tag : (o : Option ℕ) (s s′ : ℕ) → tagged o s ≡ true → tagged o s′ ≡ true → s / 8 ≡ s′ / 8
 one-tag (Some tag) s s′ h k = sym (eqb-true tag (s / 8) h) ∙ eqb-true tag (s′ / 8) k
 one-tag None s s′ h k = absurd (false≢true h)
+
+pub one-in-eight : (slots : List Slot) → One-in-eight slots
+unfolding kept slot-of
+one-in-eight slots s t h k e =
+    let q = one-tag (getD slots (s % 8) (record { tag = None; bytes = [] }) .tag) s t h (ap (λ (i : ℕ). tagged (getD slots i (record { tag = None; bytes = [] }) .tag) t) e ∙ k) in
+    omega arith
+
+-- nothing is kept: what is seen is what is seen below
+pub none-overlaid : (slots : List Slot) (below : List ℕ) → ((s : ℕ) → kept slots s ≡ false) → overlaid slots below ≡ below
+none-overlaid slots below free = sectors-alike (overlaid slots below) below (length-overlaid slots below) (λ s. sector-below slots below s (free s))
 
 pub patch-same : (slots : List Slot) (i place : ℕ) (t f : Slot) (below ys : List ℕ) → i < length slots → t ≡ getD slots i t → place / 512 % 8 ≡ i → kept slots (place / 512) ≡ true
     → f .tag ≡ t .tag → f .bytes ≡ patched (t .bytes) (place % 512) ys → length (t .bytes) ≡ 512 → place % 512 + length ys ≤ 512 → place + length ys ≤ length below

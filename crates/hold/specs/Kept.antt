@@ -25,6 +25,10 @@ slot-of slots s = getD slots (s % 8) (record { tag = None; bytes = [] })
 unfoldable pub kept : List Slot → ℕ → Bool
 kept slots s = tagged (slot-of slots s .tag) s
 
+-- of the sectors that leave the same rest by 8 at most one is kept, so that no more than 8 are
+abbrev pub One-in-eight : List Slot → Type 0
+One-in-eight slots = (s t : ℕ) → kept slots s ≡ true → kept slots t ≡ true → s % 8 ≡ t % 8 → s ≡ t
+
 -- byte i, from its sector where that is kept, else b
 unfoldable pub over : List Slot → ℕ → ℕ → ℕ
 over slots i b = cond (kept slots (i / 512)) (getD (slot-of slots (i / 512) .bytes) (i % 512) 0) b

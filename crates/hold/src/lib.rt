@@ -5,7 +5,7 @@ ghost use mathlib.Core.Path.{_≡_};
 ghost use mathlib.Core.Bool.{true, false};
 ghost use Prim.Native.Nat.{ℕ, _+_, _-_, _*_, _/_, _%_, _<_, _≤_};
 ghost use lib.ListN.{length, getD};
-ghost use Rattle.hold.specs.Kept.{kept, overlaid, with-kept, Quiet, Put};
+ghost use Rattle.hold.specs.Kept.{kept, One-in-eight, overlaid, with-kept, Quiet, Put};
 ghost use Rattle.hold.specs.KeptLaws.{kept-laws};
 ghost use Rattle.store.specs.Rules.{Answered, written, NoGain, Gain, Gained, Alone};
 ghost use Rattle.std.specs.Results.{isOk};
@@ -37,6 +37,24 @@ impl<C: Card> Hold<C> {
         }
     }
 
+    // Whether the sector is kept, not yet written below.
+    pub fn keeps(&self, sector: u32) -> bool
+        ensures is { λ r. ⌜ r ≡ kept (now (self .entry) .table .slots) sector ⌝ }
+        ensures eight { λ _. ⌜ One-in-eight (now (self .entry) .table .slots) ⌝ }
+    {
+        self.table.keeps(sector)
+    }
+
+    // Settles, and hands out the card below, with all that was seen.
+    pub fn into_below(mut self) -> C
+        ensures same { λ r. ⌜ C·Store .seen r ≡ overlaid (self .table .slots) (C·Store .seen (self .below)) ⌝ }
+        ensures lists { λ r. ⌜ Alone (C·Store .seen r) (C·Store .may r) ⌝ }
+        ensures trails { λ r. ⌜ NoGain (with-kept (self .table .slots) (C·Store .seen (self .below)) (C·Store .trail (self .below))) (C·Store .trail r) ⌝ }
+    {
+        self.settle();
+        self.below
+    }
+
     // Writes the sector of slot `i` below, if the slot keeps one, and marks the slot free.
     fn flush(&mut self, i: usize)
         requires { ⌜ i < 8 ⌝ }
@@ -44,9 +62,10 @@ impl<C: Card> Hold<C> {
         ensures others { λ _. ⌜ ((s : ℕ) → (s % 8 ≡ i → ⊥) → kept (now (self .exit) .table .slots) s ≡ kept (now (self .entry) .table .slots) s) ⌝ }
         ensures free { λ _. ⌜ ((s : ℕ) → s % 8 ≡ i → kept (now (self .exit) .table .slots) s ≡ false) ⌝ }
     {
-        let slot = self.table.slots[i];
-        if let Some(tag) = slot.tag {
-            write_sector(&mut self.below, first_byte(tag, i), &slot.bytes);
+        let tag = self.table.slots[i].tag;
+        if let Some(tag) = tag {
+            let bytes = self.table.slots[i].bytes;
+            write_sector(&mut self.below, first_byte(tag, i), &bytes);
             self.table.slots[i].free();
         }
     }

@@ -75,9 +75,14 @@ impl Table {
         ensures here { λ _. ⌜ ((k : ℕ) → k < length (now (buffer .entry)) → (place + k) / 512 % 8 ≡ i → getD (now (buffer .exit)) k 0 ≡ over (now (self .entry) .slots) (place + k) (getD (now (buffer .entry)) k 0)) ⌝ }
         ensures others { λ _. ⌜ ((k : ℕ) → k < length (now (buffer .entry)) → ((place + k) / 512 % 8 ≡ i → ⊥) → getD (now (buffer .exit)) k 0 ≡ getD (now (buffer .entry)) k 0) ⌝ }
     {
-        let slot = self.slots[i];
-        if let Some(tag) = slot.tag {
-            lay(&slot.bytes, first_byte(tag, i), u64::from(place), buffer);
+        let tag = self.slots[i].tag;
+        if let Some(tag) = tag {
+            lay(
+                &self.slots[i].bytes,
+                first_byte(tag, i),
+                u64::from(place),
+                buffer,
+            );
         }
     }
 
@@ -85,8 +90,8 @@ impl Table {
     pub fn keeps(&self, sector: u32) -> bool
         ensures { λ r. ⌜ r ≡ kept (now (self .entry) .slots) sector ⌝ }
     {
-        let slot = self.slots[(sector % 8) as usize];
-        match slot.tag {
+        let tag = self.slots[(sector % 8) as usize].tag;
+        match tag {
             Some(tag) => tag == sector / 8,
             None => false,
         }

@@ -25,6 +25,13 @@ impl<C: Store> Tray<C> {
         Tray { below, from, len }
     }
 
+    // The store below, as it is now.
+    pub fn into_below(self) -> C
+        ensures { λ r. ⌜ r ≡ self .below ⌝ }
+    {
+        self.below
+    }
+
     fn fits(&self) -> bool
         ensures { λ r. ⌜ r ≡ fits (length (C·Store .seen (now (self .entry) .below))) (now (self .entry) .from) (now (self .entry) .len) ⌝ }
     {
