@@ -1,0 +1,4 @@
+pub mod Picture
+pub mod Views
+pub mod Layers
+pub mod Soundness

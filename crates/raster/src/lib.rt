@@ -1,0 +1,4 @@
+// Grids of pixels, their rectangles and their turns.
+pub mod crop;
+pub mod grid;
+pub mod turn;
