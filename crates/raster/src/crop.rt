@@ -1,5 +1,7 @@
 // A rectangle of a grid, as a grid.
 ghost use mathlib.Core.Path.{_≡_};
+ghost use Rattle.raster.specs.Picture.{pixelOf};
+ghost use Rattle.raster.specs.Turns.{Unchanged};
 ghost use Rattle.raster.specs.Views.{cropOf, fits};
 ghost use Rattle.raster.specs.Layers.{cropped};
 ghost use Rattle.raster.specs.Soundness.{cropped-sound};
@@ -16,9 +18,18 @@ pub struct Crop<G> {
 
 impl<G: Grid> Crop<G> {
     pub fn new(below: G, area: Area) -> Crop<G>
-        ensures { λ r. ⌜ cropped (G·Grid .picture) r ≡ cropOf (G·Grid .picture below) area ⌝ }
+        ensures picture { λ r. ⌜ cropped (G·Grid .picture) r ≡ cropOf (G·Grid .picture below) area ⌝ }
+        ensures held { λ r. ⌜ r .below ≡ below ⌝ }
+        ensures unchanged { λ _. ⌜ Unchanged ⌝ }
     {
         Crop { below, area }
+    }
+
+    pub fn into_below(self) -> G
+        ensures { λ r. ⌜ r ≡ self .below ⌝ }
+    {
+        let Crop { below, area: _ } = self;
+        below
     }
 }
 
@@ -52,7 +63,11 @@ pub impl<G: Grid> Grid for Crop<G> as CropGrid {
         }
     }
 
-    fn pixel(&mut self, x: u32, y: u32) -> Result<u32, Fault> {
+    fn pixel(&mut self, x: u32, y: u32) -> Result<u32, Fault>
+        ensures answer { λ r. ⌜ r ≡ pixelOf (cropped (G·Grid .picture) (now (self .entry))) x y ⌝ }
+        ensures kept { λ _. ⌜ cropped (G·Grid .picture) (now (self .exit)) ≡ cropped (G·Grid .picture) (now (self .entry)) ⌝ }
+        ensures below { λ _. ⌜ G·Grid .picture (now (self .exit) .below) ≡ G·Grid .picture (now (self .entry) .below) ⌝ }
+    {
         let size = self.size();
         if x >= size.width || y >= size.height {
             return Err(Check::Outside.fault());

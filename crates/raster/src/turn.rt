@@ -1,5 +1,7 @@
 // A grid under one of the eight turns, as a grid.
 ghost use mathlib.Core.Path.{_≡_};
+ghost use Rattle.raster.specs.Picture.{Picture, pixelOf};
+ghost use Rattle.raster.specs.Turns.{Eight};
 ghost use Rattle.raster.specs.Views.{turnBy, swaps, mirrors, flips};
 ghost use Rattle.raster.specs.Layers.{turned};
 ghost use Rattle.raster.specs.Soundness.{turned-sound};
@@ -16,9 +18,18 @@ pub struct Turn<G> {
 
 impl<G: Grid> Turn<G> {
     pub fn new(below: G, turn: u8) -> Turn<G>
-        ensures { λ r. ⌜ turned (G·Grid .picture) r ≡ turnBy turn (G·Grid .picture below) ⌝ }
+        ensures picture { λ r. ⌜ turned (G·Grid .picture) r ≡ turnBy turn (G·Grid .picture below) ⌝ }
+        ensures held { λ r. ⌜ r .below ≡ below ⌝ }
+        ensures eight { λ _. ⌜ ((p : Picture) → Eight p (p .width) (p .height)) ⌝ }
     {
         Turn { below, turn }
+    }
+
+    pub fn into_below(self) -> G
+        ensures { λ r. ⌜ r ≡ self .below ⌝ }
+    {
+        let Turn { below, turn: _ } = self;
+        below
     }
 }
 
@@ -43,7 +54,11 @@ pub impl<G: Grid> Grid for Turn<G> as TurnGrid {
         self.below.kind()
     }
 
-    fn pixel(&mut self, x: u32, y: u32) -> Result<u32, Fault> {
+    fn pixel(&mut self, x: u32, y: u32) -> Result<u32, Fault>
+        ensures answer { λ r. ⌜ r ≡ pixelOf (turned (G·Grid .picture) (now (self .entry))) x y ⌝ }
+        ensures kept { λ _. ⌜ turned (G·Grid .picture) (now (self .exit)) ≡ turned (G·Grid .picture) (now (self .entry)) ⌝ }
+        ensures below { λ _. ⌜ G·Grid .picture (now (self .exit) .below) ≡ G·Grid .picture (now (self .entry) .below) ⌝ }
+    {
         let size = self.size();
         if x >= size.width || y >= size.height {
             return Err(Check::Outside.fault());
