@@ -3,3 +3,4 @@ pub mod Views
 pub mod Layers
 pub mod Soundness
 pub mod Turns
+pub mod Kept
