@@ -1,20 +1,21 @@
 -- What the questions to a grid keep besides its picture. Assumes nothing.
+use mathlib.Core.Path.{_≡_, refl, _∙_}
+use Rattle.raster.specs.Picture.{Picture}
 
--- a relation that one question after another has if each has it: it holds of no change, and of two changes if of each
-pub record Keeping {G : Type 0} (keeps : G → G → Type 0) : Type 0 where
-  pub none : (g : G) → keeps g g
-  pub both : {f g h : G} → keeps f g → keeps g h → keeps f h
+-- `across g h` says what is kept where g becomes h; no change keeps it, and two changes keep it if each does
+pub record Kept (G : Type 0) : Type 1 where
+  pub across : G → G → Type 0
+  pub none : (g : G) → across g g
+  pub both : {f g h : G} → across f g → across g h → across f h
 
--- the relation that asks nothing
-abbrev pub anything : {G : Type 0} → G → G → Type 0
-anything f g = Unit {0}
+-- nothing else is kept
+abbrev pub nothing : {G : Type 0} → Kept G
+nothing = record { across = λ _ _. Unit {0}; none = λ _. tt; both = λ _ _. tt }
 
-pub anything-kept : {G : Type 0} → Keeping {G = G} anything
-anything-kept = record { none = λ _. tt; both = λ _ _. tt }
-
--- a layer keeps of the grid below what that grid keeps
-abbrev pub through : {L G : Type 0} → (L → G) → (G → G → Type 0) → L → L → Type 0
-through below keeps k l = keeps (below k) (below l)
-
-pub through-kept : {L G : Type 0} (below : L → G) (keeps : G → G → Type 0) → Keeping keeps → Keeping (through below keeps)
-through-kept below keeps k = record { none = λ l. k .none (below l); both = λ p q. k .both p q }
+-- a layer keeps the picture of the grid below, and what that grid keeps
+abbrev pub through : {L G : Type 0} → (L → G) → (G → Picture) → Kept G → Kept L
+through below picture k = record {
+  across = λ l m. (picture (below m) ≡ picture (below l)) × k .across (below l) (below m);
+  none = λ l. (refl, k .none (below l));
+  both = λ p q. (q .0 ∙ p .0, k .both (p .1) (q .1));
+}

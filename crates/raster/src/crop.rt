@@ -1,9 +1,8 @@
 // A rectangle of a grid, as a grid.
 ghost use mathlib.Core.Path.{_≡_};
-ghost use Rattle.raster.specs.Picture.{pixelOf};
 ghost use Rattle.raster.specs.Turns.{Unchanged};
 ghost use Rattle.raster.specs.Views.{cropOf, fits};
-ghost use Rattle.raster.specs.Kept.{through, through-kept};
+ghost use Rattle.raster.specs.Kept.{through};
 ghost use Rattle.raster.specs.Layers.{cropped};
 ghost use Rattle.raster.specs.Soundness.{cropped-sound};
 use crate::grid::*;
@@ -39,9 +38,7 @@ pub impl<G: Grid> Grid for Crop<G> as CropGrid {
 
     ghost sound = { cropped-sound (G·Grid .picture) (G·Grid .sound) };
 
-    ghost keeps = { through (λ l. l .below) (G·Grid .keeps) };
-
-    ghost keeping = { through-kept (λ l. l .below) (G·Grid .keeps) (G·Grid .keeping) };
+    ghost keeps = { through (λ l. l .below) (G·Grid .picture) (G·Grid .keeps) };
 
     fn size(&self) -> Size {
         if fits(&self.below, self.area) {
@@ -68,12 +65,7 @@ pub impl<G: Grid> Grid for Crop<G> as CropGrid {
         }
     }
 
-    fn pixel(&mut self, x: u32, y: u32) -> Result<u32, Fault>
-        ensures answer { λ r. ⌜ r ≡ pixelOf (cropped (G·Grid .picture) (now (self .entry))) x y ⌝ }
-        ensures kept { λ _. ⌜ cropped (G·Grid .picture) (now (self .exit)) ≡ cropped (G·Grid .picture) (now (self .entry)) ⌝ }
-        ensures keeps { λ _. ⌜ G·Grid .keeps (now (self .entry) .below) (now (self .exit) .below) ⌝ }
-        ensures below { λ _. ⌜ G·Grid .picture (now (self .exit) .below) ≡ G·Grid .picture (now (self .entry) .below) ⌝ }
-    {
+    fn pixel(&mut self, x: u32, y: u32) -> Result<u32, Fault> {
         let size = self.size();
         if x >= size.width || y >= size.height {
             return Err(Check::Outside.fault());

@@ -1,7 +1,7 @@
 // Grids of pixels, and what every grid promises.
 ghost use mathlib.Core.Path.{_≡_};
 ghost use Rattle.raster.specs.Picture.{Picture, Sound, pixelOf};
-ghost use Rattle.raster.specs.Kept.{Keeping};
+ghost use Rattle.raster.specs.Kept.{Kept, nothing};
 use faults::fault::Fault;
 
 #[derive(Clone, Copy, PartialEq, Eq, Debug)]
@@ -40,10 +40,8 @@ pub trait Grid {
     // What each implementation must prove.
     ghost sound: { (g : Self) → Sound (picture g) };
 
-    // What a question keeps besides the picture, by the grid before and after it.
-    ghost keeps: { Self → Self → Type 0 };
-
-    ghost keeping: { Keeping keeps };
+    // What a question keeps besides the picture.
+    ghost keeps: { Kept Self } = { nothing };
 
     fn size(&self) -> Size
         ensures width { λ r. ⌜ r .width ≡ picture (now (self .entry)) .width ⌝ }
@@ -56,5 +54,5 @@ pub trait Grid {
     fn pixel(&mut self, x: u32, y: u32) -> Result<u32, Fault>
         ensures answer { λ r. ⌜ r ≡ pixelOf (picture (now (self .entry))) x y ⌝ }
         ensures kept { λ _. ⌜ picture (now (self .exit)) ≡ picture (now (self .entry)) ⌝ }
-        ensures keeps { λ _. ⌜ keeps (now (self .entry)) (now (self .exit)) ⌝ };
+        ensures keeps { λ _. ⌜ keeps .across (now (self .entry)) (now (self .exit)) ⌝ };
 }

@@ -1,9 +1,9 @@
 // A grid under one of the eight turns, as a grid.
 ghost use mathlib.Core.Path.{_≡_};
-ghost use Rattle.raster.specs.Picture.{Picture, pixelOf};
+ghost use Rattle.raster.specs.Picture.{Picture};
 ghost use Rattle.raster.specs.Turns.{Eight};
 ghost use Rattle.raster.specs.Views.{turnBy, swaps, mirrors, flips};
-ghost use Rattle.raster.specs.Kept.{through, through-kept};
+ghost use Rattle.raster.specs.Kept.{through};
 ghost use Rattle.raster.specs.Layers.{turned};
 ghost use Rattle.raster.specs.Soundness.{turned-sound};
 use crate::grid::*;
@@ -39,9 +39,7 @@ pub impl<G: Grid> Grid for Turn<G> as TurnGrid {
 
     ghost sound = { turned-sound (G·Grid .picture) (G·Grid .sound) };
 
-    ghost keeps = { through (λ l. l .below) (G·Grid .keeps) };
-
-    ghost keeping = { through-kept (λ l. l .below) (G·Grid .keeps) (G·Grid .keeping) };
+    ghost keeps = { through (λ l. l .below) (G·Grid .picture) (G·Grid .keeps) };
 
     fn size(&self) -> Size {
         let size = self.below.size();
@@ -59,12 +57,7 @@ pub impl<G: Grid> Grid for Turn<G> as TurnGrid {
         self.below.kind()
     }
 
-    fn pixel(&mut self, x: u32, y: u32) -> Result<u32, Fault>
-        ensures answer { λ r. ⌜ r ≡ pixelOf (turned (G·Grid .picture) (now (self .entry))) x y ⌝ }
-        ensures kept { λ _. ⌜ turned (G·Grid .picture) (now (self .exit)) ≡ turned (G·Grid .picture) (now (self .entry)) ⌝ }
-        ensures keeps { λ _. ⌜ G·Grid .keeps (now (self .entry) .below) (now (self .exit) .below) ⌝ }
-        ensures below { λ _. ⌜ G·Grid .picture (now (self .exit) .below) ≡ G·Grid .picture (now (self .entry) .below) ⌝ }
-    {
+    fn pixel(&mut self, x: u32, y: u32) -> Result<u32, Fault> {
         let size = self.size();
         if x >= size.width || y >= size.height {
             return Err(Check::Outside.fault());
