@@ -3,6 +3,7 @@ ghost use mathlib.Core.Path.{_≡_};
 ghost use Rattle.script.specs.Hash.{hashed, mixed};
 
 const BASIS: u64 = 0xcbf2_9ce4_8422_2325;
+
 const PRIME: u64 = 0x0000_0100_0000_01b3;
 
 // The hash with one byte more.

@@ -2,6 +2,14 @@
 use crate::words::Words;
 use crate::words::Wrong;
 use crate::words::WrongFromAlloc;
+use bytes::endian::Endian;
+use bytes::endian::EndianDebug;
+use bytes::endian::EndianEq;
+use bytes::endian::EndianPartialEq;
+use raster::grid::Area;
+use raster::grid::AreaDebug;
+use raster::grid::AreaEq;
+use raster::grid::AreaPartialEq;
 use std::alloc::Global;
 
 // The layers over a card, outermost first.
@@ -15,27 +23,11 @@ pub enum Pile {
     HoldHold,
 }
 
-// A byte order by its two letters.
-#[derive(Clone, Copy, PartialEq, Eq, Debug)]
-pub enum Letters {
-    II,
-    MM,
-}
-
 // How a draft is cut: rows a strip, or the sides of a tile.
 #[derive(Clone, Copy, PartialEq, Eq, Debug)]
 pub enum Pieces {
     Strips(u32),
     Tiles(u32, u32),
-}
-
-// A rectangle by its first pixel and its sides.
-#[derive(Clone, Copy, PartialEq, Eq, Debug)]
-pub struct Rectangle {
-    pub x: u32,
-    pub y: u32,
-    pub width: u32,
-    pub height: u32,
 }
 
 // What a line asks for.
@@ -48,9 +40,9 @@ pub enum Request<'a> {
     Open(u32),
     Pixel(u32, u32),
     // A window into a buffer of so many bytes.
-    Window(Rectangle, u32),
+    Window(Area, u32),
     Arrow,
-    Begin(Rectangle, u32, Letters, Pieces),
+    Begin(Area, u32, Endian, Pieces),
     Carry,
     Rest,
     Switch,
@@ -83,8 +75,8 @@ fn pile_of(words: &Words) -> Result<Pile, Wrong> {
 }
 
 // The rectangle in the words from the second on.
-fn rectangle_of(words: &Words) -> Result<Rectangle, Wrong> {
-    Ok(Rectangle {
+fn area_of(words: &Words) -> Result<Area, Wrong> {
+    Ok(Area {
         x: words.number(1)?,
         y: words.number(2)?,
         width: words.number(3)?,
@@ -93,11 +85,11 @@ fn rectangle_of(words: &Words) -> Result<Rectangle, Wrong> {
 }
 
 // The byte order that a word names.
-pub fn letters_of(word: &str) -> Result<Letters, Wrong> {
+pub fn order_of(word: &str) -> Result<Endian, Wrong> {
     if word == "II" {
-        Ok(Letters::II)
+        Ok(Endian::Little)
     } else if word == "MM" {
-        Ok(Letters::MM)
+        Ok(Endian::Big)
     } else {
         Err(Wrong::Choice)
     }
@@ -129,11 +121,11 @@ fn asked<'a>(words: &Words<'a>) -> Result<Request<'a>, Wrong> {
         Ok(Request::Pixel(words.number(1)?, words.number(2)?))
     } else if name == "window" {
         words.exactly(6)?;
-        Ok(Request::Window(rectangle_of(words)?, words.number(5)?))
+        Ok(Request::Window(area_of(words)?, words.number(5)?))
     } else if name == "begin" {
-        let order = letters_of(words.word(6))?;
+        let order = order_of(words.word(6))?;
         let cut = pieces_of(words)?;
-        Ok(Request::Begin(rectangle_of(words)?, words.number(5)?, order, cut))
+        Ok(Request::Begin(area_of(words)?, words.number(5)?, order, cut))
     } else {
         Err(Wrong::Call)
     }
