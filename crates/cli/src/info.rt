@@ -1,8 +1,8 @@
 // What a file holds.
-use bytes::endian::Endian;
 use crate::failed::Failed;
 use crate::failed::FailedFromIo;
 use crate::meaning::meaning;
+use bytes::endian::Endian;
 use faults::fault::Fault;
 use faults::shown::FaultDisplay;
 use links::directories::Directories;
@@ -32,7 +32,7 @@ fn print_directories(rt: &LibcRuntime, found: &Directories) -> Result<(), Failed
     println!(rt, "byte order: {order}")?;
     println!(rt, "directories: {count}")?;
     for page in 0..count {
-        if let Some(place) = found.place(page) {
+        if let Ok(place) = found.place(page) {
             println!(rt, "page {page}: directory at byte {place}")?;
         }
     }

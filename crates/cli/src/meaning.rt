@@ -19,7 +19,8 @@ pub fn meaning(check: Check) -> &'static str {
         Check::Missing => "a tag that the page needs is absent",
         Check::Kind => "the page is of a kind that is not read here",
         Check::Size => "a side is outside its limits",
-        Check::Tally => "there is not one offset and one byte count a segment, or there are too many segments",
+        Check::Tally =>
+            "there is not one offset and one byte count a segment, or there are too many segments",
         Check::Segment => "a segment does not hold what it needs, or lies outside the file",
         Check::Outside => "a pixel or a rectangle lies outside the picture",
         Check::Small => "the buffer is too short",
