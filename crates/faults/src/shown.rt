@@ -14,6 +14,9 @@ pub impl fmt::Display for Fault as FaultDisplay {
         let page = self.page;
         let tag = self.tag;
         let place = self.place;
-        write!(f, "refused {number} {name} page {page} tag {tag} place {place}")
+        write!(
+            f,
+            "refused {number} {name} page {page} tag {tag} place {place}"
+        )
     }
 }
