@@ -1,0 +1,2 @@
+// The checks of a page, and where an accepted page's pixels lie.
+pub mod layout;
