@@ -1,0 +1,2 @@
+// Bytes and numbers read from any store.
+pub mod numbers;
