@@ -1,2 +1,3 @@
 pub mod Pixels
 pub mod Sane
+pub mod Soundness
