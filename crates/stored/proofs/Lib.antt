@@ -1,2 +1,3 @@
 pub mod Colours
 pub mod Pixel
+pub mod Turned

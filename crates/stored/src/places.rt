@@ -3,7 +3,7 @@ ghost use mathlib.Core.Path.{_≡_};
 ghost use Prim.Native.Nat.{_<_, _≤_};
 ghost use Rattle.bytes.specs.Rows.{perByte};
 ghost use Rattle.raster.specs.Picture.{allowed};
-ghost use Rattle.raster.specs.Views.{columnBelow, rowBelow};
+ghost use Rattle.raster.specs.Views.{swaps, columnBelow, rowBelow};
 ghost use Rattle.pages.specs.Geometry.{samplesOf, across, rowBytes};
 ghost use Rattle.stored.specs.Pixels.{segmentOf, rowStart, firstSample};
 ghost use Rattle.stored.specs.Sane.{Sane};
@@ -13,11 +13,18 @@ use pages::layout::Layout;
 use raster::grid::Kind;
 use raster::grid::Photometric;
 
+// Whether a turn swaps the sides.
+pub fn swaps(turn: u8) -> bool
+    ensures { λ r. ⌜ r ≡ swaps turn ⌝ }
+{
+    turn >= 5 && turn <= 8
+}
+
 // The column below that a turn shows at column x, row y, over a picture so wide.
 pub fn column_below(turn: u8, width: u32, x: u32, y: u32) -> u32
     ensures { λ r. ⌜ r ≡ columnBelow turn width x y ⌝ }
 {
-    let column = if turn >= 5 && turn <= 8 { y } else { x };
+    let column = if swaps(turn) { y } else { x };
     match turn {
         2 | 3 | 7 | 8 => width.saturating_sub(1).saturating_sub(column),
         _ => column,
@@ -28,7 +35,7 @@ pub fn column_below(turn: u8, width: u32, x: u32, y: u32) -> u32
 pub fn row_below(turn: u8, height: u32, x: u32, y: u32) -> u32
     ensures { λ r. ⌜ r ≡ rowBelow turn height x y ⌝ }
 {
-    let row = if turn >= 5 && turn <= 8 { x } else { y };
+    let row = if swaps(turn) { x } else { y };
     match turn {
         3 | 4 | 6 | 7 => height.saturating_sub(1).saturating_sub(row),
         _ => row,
