@@ -1,0 +1,2 @@
+pub mod Mem
+pub mod Steps

@@ -1,0 +1,3 @@
+// What a holder keeps in mind, and the calls that it takes.
+pub mod call;
+pub mod state;

@@ -1,0 +1,8 @@
+// A holder over a store.
+use drafts::state::State;
+
+// The store, and what the holder keeps in mind of it.
+pub struct Holder<S> {
+    pub(crate) store: S,
+    pub(crate) state: State,
+}

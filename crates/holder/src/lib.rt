@@ -1,0 +1,4 @@
+// A holder over a store: a page shown as a grid, and over a card also its drafts.
+pub mod holder;
+pub mod shown;
+pub mod token;
