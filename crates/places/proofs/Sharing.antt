@@ -19,7 +19,6 @@ pub record Shared (place len : ℕ) (s : Span) : Type 0 where
   pub after : s .place / 512 < behind place len
 
 pub shares-true : (place len : ℕ) (s : Span) → shares place len s ≡ true → Shared place len s
-unfolding shares
 shares-true place len s t =
     let a : Bool = ltb 0 len && ltb 0 (s .count) in
     let b : Bool = ltb (place / 512) (behind (s .place) (s .count)) && ltb (s .place / 512) (behind place len) in
@@ -34,7 +33,6 @@ shares-true place len s t =
     }
 
 pub shares-from : (place len : ℕ) (s : Span) → Shared place len s → shares place len s ≡ true
-unfolding shares
 shares-from place len s h =
     let a : Bool = ltb 0 len && ltb 0 (s .count) in
     let b : Bool = ltb (place / 512) (behind (s .place) (s .count)) && ltb (s .place / 512) (behind place len) in

@@ -15,7 +15,7 @@ abbrev pub behind : ℕ → ℕ → ℕ
 behind place count = ceil (place + count) 512
 
 -- `len` bytes from a place on share a sector with a span: both have bytes, and each begins before the sectors behind the other
-unfoldable pub shares : ℕ → ℕ → Span → Bool
+abbrev pub shares : ℕ → ℕ → Span → Bool
 shares place len s =
     (ltb 0 len && ltb 0 (s .count))
     && (ltb (place / 512) (behind (s .place) (s .count)) && ltb (s .place / 512) (behind place len))

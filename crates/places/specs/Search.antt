@@ -5,7 +5,12 @@ use mathlib.Core.List.{List, [], _∷_}
 use Rattle.entries.specs.declared.entry.Entry.{Entry}
 use Rattle.entries.specs.Entries.{size}
 use Rattle.pages.specs.Extents.{Span, span, outer}
+use Rattle.places.specs.declared.extent.Extent.{Extent}
 use Rattle.places.specs.Places.{behind, shares}
+
+-- an extent of the code as a span
+abbrev pub spanOf : Extent → Span
+spanOf x = span (x .place) (x .count)
 
 -- the place of a block of `len` bytes once a span is looked at
 abbrev pub passed : ℕ → ℕ → Span → ℕ
