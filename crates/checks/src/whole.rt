@@ -1,13 +1,13 @@
 // The checks of a whole page, by its tags and their values.
 ghost use mathlib.Core.Path.{_≡_};
 ghost use Rattle.pages.specs.Pages.{faultIn, tiled, found, offsetsTag, countsTag, listing, tileListing, complete, formatted, grey, rgb, interpreted, sampled, pageSide, tileSide, tileCut, stripCut, cutOf, tallied, laidOut};
-use pages::layout::*;
 use entries::entry::Directory;
 use entries::fields::Fields;
 use entries::fields::Numbers;
 use entries::fields::Table;
 use faults::fault::Check;
 use faults::fault::Fault;
+use pages::layout::*;
 use raster::grid::Kind;
 use raster::grid::Photometric;
 

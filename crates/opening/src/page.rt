@@ -6,16 +6,16 @@ ghost use Rattle.entries.specs.Looking.{Looked};
 ghost use Rattle.pages.specs.Geometry.{segmentsOf};
 ghost use Rattle.pages.specs.Segments.{lacking, segmentAt, filled};
 ghost use Rattle.pages.specs.Opening.{pageOf, opened};
+use crate::values::read_values;
 use checks::whole::lay_out;
 use checks::whole::offsets_tag;
-use pages::layout::*;
-use crate::values::read_values;
 use entries::entry::Directory;
 use entries::reading::read_number;
 use entries::reading::scan;
 use faults::fault::Check;
 use faults::fault::Fault;
 use links::walk::walk;
+use pages::layout::*;
 use reads::numbers::read_short;
 use store::traits::Store;
 

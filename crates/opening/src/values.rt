@@ -2,11 +2,11 @@
 ghost use mathlib.Core.Path.{_≡_};
 ghost use Rattle.entries.specs.Looking.{Looked};
 ghost use Rattle.pages.specs.Pages.{formatOf, samplingOf, sidesOf, valuesOf};
-use pages::layout::*;
 use bytes::endian::Endian;
 use entries::fields::Fields;
 use entries::reading::count_or;
 use entries::reading::read_or;
+use pages::layout::*;
 use store::traits::Store;
 
 fn read_format<S: Store>(store: &mut S, endian: Endian, fields: Fields) -> Format
