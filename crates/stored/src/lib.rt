@@ -1,0 +1,5 @@
+// The pixels of a page in any store.
+pub mod page;
+pub mod places;
+pub mod samples;
+pub mod stored;
