@@ -1,3 +1,4 @@
 pub mod Colours
 pub mod Pixel
 pub mod Turned
+pub mod Accepted

@@ -1,0 +1,2 @@
+// Where a draft goes.
+pub mod extent;
