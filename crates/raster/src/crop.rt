@@ -1,6 +1,8 @@
 // A rectangle of a grid, as a grid.
 ghost use mathlib.Core.Path.{_≡_};
+ghost use Rattle.raster.specs.Turns.{Unchanged};
 ghost use Rattle.raster.specs.Views.{cropOf, fits};
+ghost use Rattle.raster.specs.Kept.{through};
 ghost use Rattle.raster.specs.Layers.{cropped};
 ghost use Rattle.raster.specs.Soundness.{cropped-sound};
 use crate::grid::*;
@@ -16,9 +18,18 @@ pub struct Crop<G> {
 
 impl<G: Grid> Crop<G> {
     pub fn new(below: G, area: Area) -> Crop<G>
-        ensures { λ r. ⌜ cropped (G·Grid .picture) r ≡ cropOf (G·Grid .picture below) area ⌝ }
+        ensures picture { λ r. ⌜ cropped (G·Grid .picture) r ≡ cropOf (G·Grid .picture below) area ⌝ }
+        ensures held { λ r. ⌜ r .below ≡ below ⌝ }
+        ensures unchanged { λ _. ⌜ Unchanged ⌝ }
     {
         Crop { below, area }
+    }
+
+    pub fn into_below(self) -> G
+        ensures { λ r. ⌜ r ≡ self .below ⌝ }
+    {
+        let Crop { below, area: _ } = self;
+        below
     }
 }
 
@@ -26,6 +37,8 @@ pub impl<G: Grid> Grid for Crop<G> as CropGrid {
     ghost picture = { cropped (G·Grid .picture) };
 
     ghost sound = { cropped-sound (G·Grid .picture) (G·Grid .sound) };
+
+    ghost keeps = { through (λ l. l .below) (G·Grid .picture) (G·Grid .keeps) };
 
     fn size(&self) -> Size {
         if fits(&self.below, self.area) {

@@ -1,6 +1,7 @@
 // Grids of pixels, and what every grid promises.
 ghost use mathlib.Core.Path.{_≡_};
 ghost use Rattle.raster.specs.Picture.{Picture, Sound, pixelOf};
+ghost use Rattle.raster.specs.Kept.{Kept, nothing};
 use faults::fault::Fault;
 
 #[derive(Clone, Copy, PartialEq, Eq, Debug)]
@@ -39,6 +40,9 @@ pub trait Grid {
     // What each implementation must prove.
     ghost sound: { (g : Self) → Sound (picture g) };
 
+    // What a question keeps besides the picture.
+    ghost keeps: { Kept Self } = { nothing };
+
     fn size(&self) -> Size
         ensures width { λ r. ⌜ r .width ≡ picture (now (self .entry)) .width ⌝ }
         ensures height { λ r. ⌜ r .height ≡ picture (now (self .entry)) .height ⌝ };
@@ -49,5 +53,6 @@ pub trait Grid {
     // The pixel number at column x, row y; Outside where either is not below its side.
     fn pixel(&mut self, x: u32, y: u32) -> Result<u32, Fault>
         ensures answer { λ r. ⌜ r ≡ pixelOf (picture (now (self .entry))) x y ⌝ }
-        ensures kept { λ _. ⌜ picture (now (self .exit)) ≡ picture (now (self .entry)) ⌝ };
+        ensures kept { λ _. ⌜ picture (now (self .exit)) ≡ picture (now (self .entry)) ⌝ }
+        ensures keeps { λ _. ⌜ keeps .across (now (self .entry)) (now (self .exit)) ⌝ };
 }

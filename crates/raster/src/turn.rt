@@ -1,6 +1,9 @@
 // A grid under one of the eight turns, as a grid.
 ghost use mathlib.Core.Path.{_≡_};
+ghost use Rattle.raster.specs.Picture.{Picture};
+ghost use Rattle.raster.specs.Turns.{Eight};
 ghost use Rattle.raster.specs.Views.{turnBy, swaps, mirrors, flips};
+ghost use Rattle.raster.specs.Kept.{through};
 ghost use Rattle.raster.specs.Layers.{turned};
 ghost use Rattle.raster.specs.Soundness.{turned-sound};
 use crate::grid::*;
@@ -16,9 +19,18 @@ pub struct Turn<G> {
 
 impl<G: Grid> Turn<G> {
     pub fn new(below: G, turn: u8) -> Turn<G>
-        ensures { λ r. ⌜ turned (G·Grid .picture) r ≡ turnBy turn (G·Grid .picture below) ⌝ }
+        ensures picture { λ r. ⌜ turned (G·Grid .picture) r ≡ turnBy turn (G·Grid .picture below) ⌝ }
+        ensures held { λ r. ⌜ r .below ≡ below ⌝ }
+        ensures eight { λ _. ⌜ ((p : Picture) → Eight p (p .width) (p .height)) ⌝ }
     {
         Turn { below, turn }
+    }
+
+    pub fn into_below(self) -> G
+        ensures { λ r. ⌜ r ≡ self .below ⌝ }
+    {
+        let Turn { below, turn: _ } = self;
+        below
     }
 }
 
@@ -26,6 +38,8 @@ pub impl<G: Grid> Grid for Turn<G> as TurnGrid {
     ghost picture = { turned (G·Grid .picture) };
 
     ghost sound = { turned-sound (G·Grid .picture) (G·Grid .sound) };
+
+    ghost keeps = { through (λ l. l .below) (G·Grid .picture) (G·Grid .keeps) };
 
     fn size(&self) -> Size {
         let size = self.below.size();

@@ -1,0 +1,3 @@
+pub mod Decimals
+pub mod Heads
+pub mod Samples

@@ -1,0 +1,4 @@
+pub mod Table
+pub mod Frames
+pub mod Places
+pub mod Compose
