@@ -1,2 +1,3 @@
 pub mod Mem
+pub mod Wrote
 pub mod Steps

@@ -13,7 +13,7 @@ use Rattle.std.specs.declared.result.Result.{Result}
 use Rattle.std.specs.declared.result.Result.the-variants.{Ok, Err}
 use Rattle.faults.specs.declared.fault.Check.the-variants.{Busy, Closed, Pages, View as ViewCheck, Many, Space, Stage as StageCheck}
 use Rattle.faults.specs.declared.fault.Fault.{Fault}
-use Rattle.faults.specs.Faults.{bare, refused}
+use Rattle.faults.specs.Faults.{bare, refused, then}
 use Rattle.bytes.specs.Rows.{ceil}
 use Rattle.bytes.specs.Sectors.{sector, patched, In, Lists}
 use Rattle.store.specs.Power.{nothing, write-lays}
@@ -21,6 +21,7 @@ use Rattle.raster.specs.declared.grid.Size.{Size}
 use Rattle.raster.specs.declared.grid.Kind.{Kind}
 use Rattle.raster.specs.Picture.{Picture, empty, pixelOf}
 use Rattle.raster.specs.Turns.{composed}
+use Rattle.raster.specs.Views.{swaps}
 use Rattle.netpbm.specs.Window.{windowAnswer}
 use Rattle.pages.specs.declared.layout.Layout.{Layout}
 use Rattle.pages.specs.Opening.{opened}
@@ -28,7 +29,7 @@ use Rattle.stored.specs.Pixels.{pictureOf}
 use Rattle.plans.specs.declared.outline.Outline.{Outline}
 use Rattle.plans.specs.declared.plan.Plan.{Plan}
 use Rattle.plans.specs.declared.view.View.{View}
-use Rattle.plans.specs.Views.{viewed, shows, viewWidth, viewHeight}
+use Rattle.plans.specs.Views.{viewed, shows, showsIn, viewWidth, viewHeight}
 use Rattle.plans.specs.Outlines.{segmentsIn, blockSize}
 use Rattle.plans.specs.Plans.{planOutline}
 use Rattle.plans.specs.Blocks.{block, header}
@@ -108,17 +109,30 @@ abbrev pub openHeld : Held → Result Layout Fault → Held
 openHeld h (Ok l) = held (Some l) (l .orientation) (h .draft)
 openHeld h (Err f) = h
 
+-- the sides of a page's picture, which orientations 5 to 8 swap
+abbrev pub widthOf : Layout → ℕ
+widthOf l = cond (swaps (l .orientation)) (l .height) (l .width)
+
+abbrev pub heightOf : Layout → ℕ
+heightOf l = cond (swaps (l .orientation)) (l .width) (l .height)
+
 -- `begin`: the place of the draft, or the fault
 abbrev pub spaced : Option ℕ → Result ℕ Fault
 spaced None = Err (bare Space)
 spaced (Some place) = Ok place
 
+-- the bytes of the draft of a page through a view by a plan
+unfoldable pub sizedFor : Layout → View → Plan → Result ℕ Fault
+sizedFor l v plan =
+    refused (not (showsIn (widthOf l) (heightOf l) v)) (bare ViewCheck)
+    (refused (ltb 1024 (segmentsIn (outlineBy v plan (l .kind)))) (bare Many)
+    (Ok (blockSize (outlineBy v plan (l .kind)))))
+
 unfoldable pub roomFor : List ℕ → Layout → View → Plan → Result ℕ Fault
 roomFor bs l v plan =
     refused (not (eqb (l .directories) 1)) (bare Pages)
-    (refused (not (shows (pictureOf bs l) v)) (bare ViewCheck)
-    (refused (ltb 1024 (segmentsIn (outlineBy v plan (l .kind)))) (bare Many)
-    (spaced (placeOf bs l (blockSize (outlineBy v plan (l .kind)))))))
+    (then (sizedFor l v plan) (λ size.
+    spaced (placeOf bs l size)))
 
 abbrev pub placeBy : List ℕ → View → Plan → Option Draft → Option Layout → Result ℕ Fault
 placeBy bs v plan (Some d) page = Err (bare Busy)

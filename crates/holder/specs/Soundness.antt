@@ -25,7 +25,7 @@ module _ {S : Type 0} (seen : S → List ℕ) where
   holder-sound h = shown-sound (h .state .page) (seen (h .store))
 
   module _ (may trail : S → Lists) where
-    pub holder-keeps : Kept (Holder S)
+    abbrev pub holder-keeps : Kept (Holder S)
     holder-keeps = record {
       across = KeptBy seen may trail;
       none = λ h. record { state = refl; quiet = record { seen = refl; may = record { none = λ s c i. i }; trail = record { none = λ s c i. i } } };

@@ -2,12 +2,10 @@
 ghost use mathlib.Core.Path.{_≡_};
 ghost use lib.ListN.{length};
 ghost use Rattle.std.specs.declared.result.Result.the-variants.{Ok};
-ghost use Rattle.drafts.specs.declared.call.Call.the-variants.{Open, Pixel, Window, Arrow};
-ghost use Rattle.drafts.specs.Steps.{Step, number, pictureIn};
-ghost use Rattle.drafts.specs.Steps.{fresh};
+ghost use Rattle.drafts.specs.declared.call.Call.the-variants.{Window, Arrow};
+ghost use Rattle.drafts.specs.Steps.{Step, number, fresh};
 ghost use Rattle.netpbm.specs.Window.{windowBuffer};
-ghost use Rattle.raster.specs.Picture.{pixelOf};
-ghost use Rattle.holder.specs.Worlds.{worldOf, heldBy, pictureBy, keptBy, toldOpen};
+ghost use Rattle.holder.specs.Worlds.{worldOf, heldBy, pictureBy};
 ghost use Rattle.holder.specs.Soundness.{holder-sound, holder-keeps};
 use crate::holder::Holder;
 use drafts::state::State;
@@ -16,7 +14,6 @@ use faults::fault::Fault;
 use netpbm::window::window;
 use raster::grid::*;
 use store::traits::Store;
-use stored::page::Page;
 
 pub impl<S: Store> Grid for Holder<S> as HolderGrid {
     ghost picture = { pictureBy (S·Store .seen) };
@@ -54,6 +51,21 @@ pub impl<S: Store> Grid for Holder<S> as HolderGrid {
 }
 
 impl<S: Store> Holder<S> {
+    // A closed holder: an empty grid.
+    pub fn new(store: S) -> Self
+        ensures store { λ r. ⌜ r .store ≡ store ⌝ }
+        ensures fresh { λ r. ⌜ heldBy (r .state) ≡ fresh ⌝ }
+    {
+        Holder {
+            store,
+            state: State {
+                page: None,
+                arrow: 1,
+                draft: None,
+            },
+        }
+    }
+
     // A rectangle of the picture as a Netpbm file; a refusal leaves the buffer as it was.
     pub fn window(&mut self, area: Area, buffer: &mut [u8]) -> Result<usize, Fault>
         ensures step { λ r. ⌜ Step (Window area (length (now (buffer .entry)))) (worldOf (S·Store .seen) (S·Store .may) (S·Store .trail) (now (self .entry))) (number r) (worldOf (S·Store .seen) (S·Store .may) (S·Store .trail) (now (self .exit))) ⌝ }
