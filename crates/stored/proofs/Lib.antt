@@ -5,3 +5,4 @@ pub mod Accepted
 pub mod Within
 pub mod Covering
 pub mod Local
+pub mod Cases
