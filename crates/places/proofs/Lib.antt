@@ -5,3 +5,4 @@ pub mod Limits
 pub mod Entering
 pub mod Looping
 pub mod Ending
+pub mod Apart

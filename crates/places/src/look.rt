@@ -80,7 +80,7 @@ fn pass_entries<S: Store>(store: &mut S, directory: Directory, place: u64, len: 
 
 // How many segments a page has.
 fn segment_count(layout: Layout) -> u32
-    requires { ⌜ Sane layout ⌝ }
+    requires { ⌜ segmentsOf layout < 2 ^ 32 ⌝ }
     ensures { λ r. ⌜ r ≡ segmentsOf layout ⌝ }
 {
     layout.segments() as u32

@@ -3,10 +3,17 @@ ghost use mathlib.Core.Path.{_≡_};
 ghost use Rattle.store.specs.Rules.{NoGain};
 ghost use Rattle.places.specs.Places.{placeOf};
 ghost use Rattle.places.specs.Lowest.{Placed};
-use crate::extent::ends_by;
+use crate::extent::*;
 use crate::look::pass_extents;
 use store::traits::Store;
 use stored::page::Page;
+
+// The lowest place of a block: sector 0 is the header's.
+fn first_place() -> u64
+    ensures { λ r. ⌜ r ≡ 512 ⌝ }
+{
+    SECTOR
+}
 
 // The place of a block of `len` bytes beside a page: the lowest multiple of 512, from 512 up, at which it ends within the
 // store and shares no sector with an extent of the page; none if there is none.
@@ -19,7 +26,7 @@ pub fn find_place<S: Store>(store: &mut S, page: Page, len: u64) -> Option<u32>
 {
     let n = store.length();
     let layout = page.layout();
-    let mut place = 512;
+    let mut place = first_place();
     while ends_by(place, len, n) {
         let next = pass_extents(store, layout, place, len);
         if next == place {

@@ -6,8 +6,12 @@ use Rattle.entries.proofs.Looks.{looked-none, looked-on}
 use Rattle.pages.specs.Extents.{segmentSpan}
 use Rattle.pages.specs.Geometry.{segmentsOf}
 use Rattle.places.specs.Search.{spanOf, passed, passedSegments}
+use Rattle.places.proofs.Limits.{segments-few}
 use Rattle.places.proofs.Looping.{segments-turn, segments-end}
 use Rattle.places.proofs.look.pass_segments.Needs as need
+
+pub segment-count-k-end-requires : need.segment-count-k-end-requires
+segment-count-k-end-requires g c κs = segments-few (c .args .layout) (c .pre .sane)
 
 pub loop-k-holds : need.loop-k-holds
 loop-k-holds g c =

@@ -16,11 +16,13 @@ use Rattle.places.proofs.Ending.{tried-none, tried-more, ends-at, ends-none}
 use Rattle.places.proofs.search.find_place.Needs as need
 
 pub loop-layout-holds : need.loop-layout-holds
-loop-layout-holds g c = (
-  tried-none (extents (g .S·Store .seen (c .args .store .now)) (c .layout-layout .result)) (c .args .len),
-  omega arith,
-  looked-none (g .S·Store .seen) (g .S·Store .may) (g .S·Store .trail) (c .args .store .now),
-)
+loop-layout-holds g c =
+    let all = extents (g .S·Store .seen (c .args .store .now)) (c .layout-layout .result) in
+    let first = c .first-place-place .ensures in (
+      subst (Tried all (c .args .len)) (sym first) (tried-none all (c .args .len)),
+      omega (arith, first),
+      looked-none (g .S·Store .seen) (g .S·Store .may) (g .S·Store .trail) (c .args .store .now),
+    )
 
 pub pass-extents-next-requires : need.pass-extents-next-requires
 pass-extents-next-requires g c κs =
