@@ -109,14 +109,14 @@ cut-fits d t s c e =
     by false w h z = strip-fits d s c w h z
 
 -- what is known of the layout of a page whose tags pass their checks
-record Laid (d : Directory) (n : ℕ) (fs : Fields) (v : Values) (l : Layout) : Type 0 where
-  listing : Listing
-  is-complete : complete d fs ≡ Ok listing
-  offsets : l .offsets ≡ listing .offsets
-  directory : l .directory ≡ d
-  tiles : l .cut .tiled ≡ tiled fs
-  count : l .offsets .count ≡ segmentsOf l
-  limits : sane l ≡ true
+pub record Laid (d : Directory) (n : ℕ) (fs : Fields) (v : Values) (l : Layout) : Type 0 where
+  pub listing : Listing
+  pub is-complete : complete d fs ≡ Ok listing
+  pub offsets : l .offsets ≡ listing .offsets
+  pub directory : l .directory ≡ d
+  pub tiles : l .cut .tiled ≡ tiled fs
+  pub count : l .offsets .count ≡ segmentsOf l
+  pub limits : sane l ≡ true
 
 cut-tiled : (d : Directory) (t : Bool) (s : Sides) (c : Cut) → cutOf d t s ≡ Ok c → c .tiled ≡ t
 unfolding cutOf tileCut stripCut
@@ -159,13 +159,13 @@ laid-known d n fs v l e =
     }
 
 -- what is known of the layout of an accepted page
-record Accepted (bs : List ℕ) (n : ℕ) (d : Directory) (l : Layout) : Type 0 where
-  fields : Fields
-  is-fielded : fielded bs d ≡ Ok fields
-  laid : Laid d n fields (valuesOf (d .endian) bs fields) l
-  full : segmentsFrom (segmentsOf l) bs l 0 ≡ Ok tt
+pub record Accepted (bs : List ℕ) (n : ℕ) (d : Directory) (l : Layout) : Type 0 where
+  pub fields : Fields
+  pub is-fielded : fielded bs d ≡ Ok fields
+  pub laid : Laid d n fields (valuesOf (d .endian) bs fields) l
+  pub full : segmentsFrom (segmentsOf l) bs l 0 ≡ Ok tt
 
-page-known : (bs : List ℕ) (n : ℕ) (d : Directory) (l : Layout) → pageOf bs n d ≡ Ok l → Accepted bs n d l
+pub page-known : (bs : List ℕ) (n : ℕ) (d : Directory) (l : Layout) → pageOf bs n d ≡ Ok l → Accepted bs n d l
 unfolding pageOf filled
 page-known bs n d l e = 
     let a = then-was (fielded bs d) (λ fs. then (laidOut d n fs (valuesOf (d .endian) bs fs)) (λ q. filled bs q)) l e in

@@ -82,12 +82,16 @@ from-by bs Rgb b row first t =
     subst (λ n. pixelBy bs n 3 row first ≡ rgbAt bs (row + first / perByte n)) (sym (eqb-true b 8 t)) (rgb-from bs row first)
 
 -- the pixel of a row is the one from its own place on
+pub pixel-row : (bs : List ℕ) (l : Layout) (x y : ℕ) → allowed (l .kind) ≡ true →
+    storedPixel bs l x y
+    ≡ pixelFrom bs (l .kind .photometric) (l .kind .bits) (rowPlace bs l x y + firstSample l x / perByte (l .kind .bits)) (firstSample l x % perByte (l .kind .bits))
+unfolding storedPixel pixelIn
+pixel-row bs l x y t = from-by bs (l .kind .photometric) (l .kind .bits) (rowPlace bs l x y) (firstSample l x) t
+
 pub pixel-from : (bs : List ℕ) (l : Layout) (x y : ℕ) → allowed (l .kind) ≡ true →
     pixelFrom bs (l .kind .photometric) (l .kind .bits) (offsetOf bs l (segmentOf (l .cut) (l .width) x y) + startOf l x y) (firstSample l x % perByte (l .kind .bits))
     ≡ storedPixel bs l x y
-unfolding storedPixel pixelIn
 pixel-from bs l x y t =
     let offset : ℕ = offsetOf bs l (segmentOf (l .cut) (l .width) x y) in
-    let at : offset + startOf l x y ≡ offset + rowStart l y + firstSample l x / perByte (l .kind .bits) = omega arith in
-    ap (λ n. pixelFrom bs (l .kind .photometric) (l .kind .bits) n (firstSample l x % perByte (l .kind .bits))) at
-    ∙ sym (from-by bs (l .kind .photometric) (l .kind .bits) (rowPlace bs l x y) (firstSample l x) t)
+    let at : offset + startOf l x y ≡ rowPlace bs l x y + firstSample l x / perByte (l .kind .bits) = omega arith in
+    ap (λ n. pixelFrom bs (l .kind .photometric) (l .kind .bits) n (firstSample l x % perByte (l .kind .bits))) at ∙ sym (pixel-row bs l x y t)

@@ -22,7 +22,7 @@ pub fn read_stored<S: Store>(store: &mut S, layout: &Layout, x: u32, y: u32) -> 
 {
     let segment = segment_of(layout, x, y);
     let offset = read_number(store, layout.directory.endian, layout.offsets, segment);
-    let place = offset as u64 + start_of(layout, x, y) as u64;
+    let place = offset as u64 + start_of(layout, x, y);
     let sample = first_sample(layout, x) % (8 / layout.kind.bits as u32);
     read_pixel(store, layout.kind, place, sample)
 }

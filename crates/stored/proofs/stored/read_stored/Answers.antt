@@ -23,7 +23,7 @@ returns g c =
     let read : c .read-pixel .result ≡ pixelFrom bs (l .kind .photometric) (l .kind .bits)
         (offsetOf bs l (segmentOf (l .cut) (l .width) x y) + startOf l x y) (firstSample l x % perByte (l .kind .bits)) =
         r .value
-        ∙ (λ i. pixelFrom (offset .looked .same i) (l .kind .photometric) (l .kind .bits) (at i) (c .first-sample .ensures .value i % perByte (l .kind .bits))) in
+        ∙ (λ i. pixelFrom (offset .looked .same i) (l .kind .photometric) (l .kind .bits) (at i) (c .first-sample .ensures i % perByte (l .kind .bits))) in
     record {
       value = read ∙ pixel-from bs l x y (c .pre .sane .kind);
       same = r .same ∙ offset .looked .same;
