@@ -69,8 +69,8 @@ sampled-kind : (d : Directory) (s : Sampling) (k : Kind) → sampled d s ≡ Ok 
 unfolding sampled
 sampled-kind d s k e =
     let p =
-        three (not (eqb (s .samples) 1 || eqb (s .samples) 3)) (not (eqb (s .given) (s .samples))) (not (grey s || rgb s))
-        (faultIn KindCheck d 277) (faultIn KindCheck d 258) (faultIn KindCheck d 262) (kindOf (interpreted (s .photometric)) (s .first)) k e in
+    three (not (eqb (s .samples) 1 || eqb (s .samples) 3)) (not (eqb (s .given) (s .samples))) (not (grey s || rgb s))
+    (faultIn KindCheck d 277) (faultIn KindCheck d 258) (faultIn KindCheck d 262) (kindOf (interpreted (s .photometric)) (s .first)) k e in
     subst (λ (q : Kind). allowed q ≡ true) (p .3)
     (⊎-elim (grey-allowed s) (rgb-allowed s) (or-cases (grey s) (rgb s) (not-false (grey s || rgb s) (p .2))))
 
@@ -137,8 +137,8 @@ laid-known d n fs v l e =
     let c = z .0 in
     let q = by-cut t o k c in
     let r =
-        three (not (eqb (q .offsets .count) (segmentsOf q))) (not (eqb (q .counts .count) (segmentsOf q))) (ltb 1024 (segmentsOf q))
-        (faultIn Tally d (offsetsTag (c .tiled))) (faultIn Tally d (countsTag (c .tiled))) (faultIn Tally d (offsetsTag (c .tiled))) q l (z .2) in
+    three (not (eqb (q .offsets .count) (segmentsOf q))) (not (eqb (q .counts .count) (segmentsOf q))) (ltb 1024 (segmentsOf q))
+    (faultIn Tally d (offsetsTag (c .tiled))) (faultIn Tally d (countsTag (c .tiled))) (faultIn Tally d (offsetsTag (c .tiled))) q l (z .2) in
     let sides = cut-fits d (tiled fs) (v .sides) c (z .1) in
     subst (Laid d n fs v) (r .3)
     record {
@@ -167,7 +167,7 @@ pub record Accepted (bs : List ℕ) (n : ℕ) (d : Directory) (l : Layout) : Typ
 
 pub page-known : (bs : List ℕ) (n : ℕ) (d : Directory) (l : Layout) → pageOf bs n d ≡ Ok l → Accepted bs n d l
 unfolding pageOf filled
-page-known bs n d l e = 
+page-known bs n d l e =
     let a = then-was (fielded bs d) (λ fs. then (laidOut d n fs (valuesOf (d .endian) bs fs)) (λ q. filled bs q)) l e in
     let fs = a .0 in
     let b = then-was (laidOut d n fs (valuesOf (d .endian) bs fs)) (λ q. filled bs q) l (a .2) in
@@ -183,11 +183,16 @@ page-known bs n d l e =
 pub at-sane : (o : Endian) (bs : List ℕ) (n page place : ℕ) (l : Layout) → pageAt o bs n page place ≡ Ok l → sane l ≡ true
 at-sane o bs n page place l e = page-known bs n (directoryAt o bs page place) l e .laid .limits
 
--- the layout of every accepted page is sane
-pub opened-sane : (bs : List ℕ) (page : ℕ) (l : Layout) → opened bs page ≡ Ok l → sane l ≡ true
+-- an accepted page of a file, at the place that the walk found
+pub opened-known : (bs : List ℕ) (page : ℕ) (l : Layout) → opened bs page ≡ Ok l → (n : ℕ) × (d : Directory) × Accepted bs n d l
 unfolding opened
-opened-sane bs page l e =
+opened-known bs page l e =
     let walk = then-was (walked bs) (λ ds. then (placed ds page) (λ place. pageAt (ds .endian) bs (ds .count) page place)) l e in
     let ds = walk .0 in
     let place = then-was (placed ds page) (λ place. pageAt (ds .endian) bs (ds .count) page place) l (walk .2) in
-    at-sane (ds .endian) bs (ds .count) page (place .0) l (place .2)
+    let d : Directory = directoryAt (ds .endian) bs page (place .0) in
+    (ds .count, d, page-known bs (ds .count) d l (place .2))
+
+-- the layout of every accepted page is sane
+pub opened-sane : (bs : List ℕ) (page : ℕ) (l : Layout) → opened bs page ≡ Ok l → sane l ≡ true
+opened-sane bs page l e = opened-known bs page l e .2 .laid .limits

@@ -96,8 +96,8 @@ many-passes n page least next tag e s t p =
     let shape : shapeOf (e .tag) ≡ Some Many = ap shapeOf t ∙ s in
     let b : shaped n page e (Some Many) ≡ Ok next = sym (ap (shaped n page e) shape) ∙ a .1 in
     let c =
-        passed (not (fits Many (e .kind) (e .count))) (fault Field page (e .tag) (e .place))
-        (refused (astray n e) (fault Value page (e .tag) (e .place)) (Ok (e .tag + 1))) next b in
+    passed (not (fits Many (e .kind) (e .count))) (fault Field page (e .tag) (e .place))
+    (refused (astray n e) (fault Value page (e .tag) (e .place)) (Ok (e .tag + 1))) next b in
     let d = passed (astray n e) (fault Value page (e .tag) (e .place)) (Ok (e .tag + 1)) next (c .1) in
     (not-false (fits Many (e .kind) (e .count)) (c .0), d .0)
 
@@ -172,8 +172,8 @@ values-covered bs l e h a i low high = ⊎-elim long short (cases-lt 4 (size e))
     short m =
         let s = standing (l .directory .endian) bs (l .directory .entries) (l .directory .place + 2) e h in
         let z : e .values ≡ s .place + 8 =
-            ap (λ (y : Entry). y .values) (s .is)
-            ∙ inner-place (l .directory .endian) bs (s .place) (subst (λ (y : Entry). size y ≤ 4) (s .is) m) in
+        ap (λ (y : Entry). y .values) (s .is)
+        ∙ inner-place (l .directory .endian) bs (s .place) (subst (λ (y : Entry). size y ≤ 4) (s .is) m) in
         inl (omega (arith, s .low), omega (arith, s .high))
 
 segment-from : (bs : List ℕ) (l : Layout) (n a k i : ℕ) → a ≤ k → k < a + n → offsetOf bs l k ≤ i → i < offsetOf bs l k + needed l k →
@@ -201,8 +201,8 @@ full-from bs l zero a k e h m = absurd (omega arith)
 full-from bs l (suc n) a k e h m =
     let s = then-was (segmentAt bs l a) (λ _. segmentsFrom n bs l (a + 1)) tt e in
     let p =
-        passed (lacking (length bs) (offsetOf bs l a) (byteCountOf bs l a) (needed l a))
-        (fault Segment (l .directory .page) (offsetsTag (l .cut .tiled)) (offsetOf bs l a)) (Ok tt) (s .0) (s .1) in
+    passed (lacking (length bs) (offsetOf bs l a) (byteCountOf bs l a) (needed l a))
+    (fault Segment (l .directory .page) (offsetsTag (l .cut .tiled)) (offsetOf bs l a)) (Ok tt) (s .0) (s .1) in
     let here : offsetOf bs l a + needed l a ≤ length bs = lacks-not (length bs) (offsetOf bs l a) (byteCountOf bs l a) (needed l a) (p .0) in
     ⊎-elim
     (λ z. subst (λ j. offsetOf bs l j + needed l j ≤ length bs) z here)
@@ -253,8 +253,8 @@ offsets-found bs n d l a =
     let p = then-was (scanned (length bs) (d .page) 0 es) (λ _. Ok (gathered es)) (a .fields) (a .is-fielded) in
     let g : gathered es ≡ a .fields = same (gathered es) (a .fields) (p .2) in
     let seek : (tag : ℕ) → soughtFrom None tag es ≡ Some (a .laid .listing .offsets) → Found (length bs) (d .page) tag es (l .offsets) =
-        λ tag z. ⊎-elim (λ w. absurd (none (l .offsets) w)) (λ f. f)
-        (found-among (length bs) (d .page) 0 tag es None (l .offsets) (z ∙ ap (λ (v : Numbers). Some v) (sym (a .laid .offsets))) (p .1)) in
+    λ tag z. ⊎-elim (λ w. absurd (none (l .offsets) w)) (λ f. f)
+    (found-among (length bs) (d .page) 0 tag es None (l .offsets) (z ∙ ap (λ (v : Numbers). Some v) (sym (a .laid .offsets))) (p .1)) in
     ⊎-elim
     (λ z. inl (seek 324 (ap (λ (f : Fields). f .tiles .offsets) g ∙ z)))
     (λ z. inr (seek 273 (ap (λ (f : Fields). f .strips .offsets) g ∙ z)))
@@ -272,11 +272,11 @@ number-covered bs l page tag s f k i h m =
     let e = f .entry in
     let p = many-passes (length bs) page (f .least) (f .next) tag e s (f .tagged) (f .passes) in
     let in-entry : (v : Numbers) → numbersOf e ≡ v → k < v .count → i < wide (v .form) → Covered (extents bs l) (placeOf v k + i) =
-        λ v z. subst (λ (u : Numbers). k < u .count → i < wide (u .form) → Covered (extents bs l) (placeOf u k + i)) z
-        (λ low high.
-        let w : ℕ = wide (formOf (e .kind)) in
-        values-covered bs l e (f .among) (p .1) (e .values + w * k + i) (omega arith)
-        (omega (arith, many-size (e .kind) (e .count) (p .0), mul-le-mul-left {m = suc k} {n = e .count} w low, mul-suc w k))) in
+    λ v z. subst (λ (u : Numbers). k < u .count → i < wide (u .form) → Covered (extents bs l) (placeOf u k + i)) z
+    (λ low high.
+    let w : ℕ = wide (formOf (e .kind)) in
+    values-covered bs l e (f .among) (p .1) (e .values + w * k + i) (omega arith)
+    (omega (arith, many-size (e .kind) (e .count) (p .0), mul-le-mul-left {m = suc k} {n = e .count} w low, mul-suc w k))) in
     in-entry (l .offsets) (f .values) h m
 
 -- each offset of an accepted page
@@ -285,7 +285,7 @@ pub offset-covered : (bs : List ℕ) (n : ℕ) (d : Directory) (l : Layout) → 
 offset-covered bs n d l a k i h m =
     let few : k < l .offsets .count = omega (arith, a .laid .count) in
     let there : (tag : ℕ) → Found (length bs) (d .page) tag (entriesOf bs d) (l .offsets) → Found (length bs) (d .page) tag (entriesOf bs (l .directory)) (l .offsets) =
-        λ tag f. subst (λ (q : Directory). Found (length bs) (d .page) tag (entriesOf bs q) (l .offsets)) (sym (a .laid .directory)) f in
+    λ tag f. subst (λ (q : Directory). Found (length bs) (d .page) tag (entriesOf bs q) (l .offsets)) (sym (a .laid .directory)) f in
     ⊎-elim
     (λ f. number-covered bs l (d .page) 324 refl (there 324 f) k i few m)
     (λ f. number-covered bs l (d .page) 273 refl (there 273 f) k i few m)

@@ -34,8 +34,10 @@ use Rattle.pages.specs.Extents.{extents, AgreeOn}
 use Rattle.stored.specs.Pixels.{segmentOf, firstSample, storedPixel, stored, pictureOf}
 use Rattle.stored.specs.Reading.{startOf, sampleAt, rgbAt, pixelFrom}
 use Rattle.stored.specs.Sane.{Sane, sane-parts}
-use Rattle.stored.proofs.Accepted.{Accepted, page-known}
-use Rattle.stored.proofs.Covering.{offset-covered, segment-covered}
+use Rattle.stored.specs.Reads.{Pages-whole}
+use Rattle.stored.specs.Soundness.{picture-sound}
+use Rattle.stored.proofs.Accepted.{Accepted, page-known, opened-known}
+use Rattle.stored.proofs.Covering.{offset-covered, segment-covered, segment-inside}
 use Rattle.stored.proofs.Pixel.{pixel-from}
 use Rattle.stored.proofs.Within.{in-segments, in-needed}
 
@@ -103,3 +105,17 @@ module _ (bs cs : List ℕ) (l : Layout) (has : HasPage bs l) (long : length bs 
 
   pub picture-local : pictureOf bs l ≡ pictureOf cs l
   picture-local = ap (turnBy (l .orientation)) stored-local
+
+-- the bytes of each pixel of an accepted page lie in the file
+pub pages-whole : Pages-whole
+pages-whole bs page l e =
+    let a = opened-known bs page l e in
+    let t = a .2 .laid .limits in
+    let s : Sane l = sane-parts l t in
+    record {
+      limits = t;
+      sound = picture-sound bs l t;
+      inside = λ x y inx iny.
+          let k : ℕ = segmentOf (l .cut) (l .width) x y in
+          omega (arith, in-needed l s x y inx iny, segment-inside bs (a .0) (a .1) l (a .2) k (in-segments l s x y inx iny));
+    }

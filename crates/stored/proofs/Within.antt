@@ -57,6 +57,6 @@ module _ (l : Layout) (s : Sane l) (x y : ℕ) (inx : x < l .width) (iny : y < l
       let c = l .cut in
       let size : ℕ = rowBytes c (l .kind) in
       let row : firstSample l x / perByte (l .kind .bits) + samplesOf (l .kind) ≤ size =
-          in-row (l .kind .photometric) (l .kind .bits) (c .wide) (x % c .wide) (s .kind) (mod-lt x (s .wide .least)) in
+      in-row (l .kind .photometric) (l .kind .bits) (c .wide) (x % c .wide) (s .kind) (mod-lt x (s .wide .least)) in
       let rows : suc (y % c .high) * size ≤ rowsOf c (l .width) (l .height) (segmentOf c (l .width) x y) * size = mul-le-mul-right size in-rows in
       omega (arith, row, rows, suc-mul (y % c .high) size)

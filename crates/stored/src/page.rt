@@ -1,6 +1,9 @@
 // A page of a store: its layout, and its pixels as they are shown.
 ghost use mathlib.Core.Path.{_≡_};
 ghost use mathlib.Core.Bool.{true};
+ghost use Rattle.std.specs.declared.result.Result.the-variants.{Ok};
+ghost use Rattle.faults.specs.Faults.{then};
+ghost use Rattle.pages.specs.Opening.{opened};
 ghost use Rattle.raster.specs.Picture.{pixelOf};
 ghost use Rattle.store.specs.Rules.{NoGain};
 ghost use Rattle.stored.specs.Pixels.{pictureOf, shownWidth, shownHeight};
@@ -9,6 +12,7 @@ use crate::places::*;
 use crate::stored::read_stored;
 use faults::fault::Check;
 use faults::fault::Fault;
+use opening::page::open_page;
 use pages::layout::Layout;
 use raster::grid::Kind;
 use raster::grid::Size;
@@ -22,6 +26,17 @@ pub struct Page {
 }
 
 impl Page {
+    // A page of the store, or the first fault.
+    pub fn open<S: Store>(store: &mut S, page: u32) -> Result<Page, Fault>
+        ensures value { λ r. ⌜ then r (λ p. Ok (p .layout)) ≡ opened (S·Store .seen (now (store .entry))) page ⌝ }
+        ensures same { λ _. ⌜ S·Store .seen (now (store .exit)) ≡ S·Store .seen (now (store .entry)) ⌝ }
+        ensures lists { λ _. ⌜ NoGain (S·Store .may (now (store .entry))) (S·Store .may (now (store .exit))) ⌝ }
+        ensures trails { λ _. ⌜ NoGain (S·Store .trail (now (store .entry))) (S·Store .trail (now (store .exit))) ⌝ }
+    {
+        let layout = open_page(store, page)?;
+        Ok(Page { layout })
+    }
+
     pub fn layout(&self) -> Layout
         ensures { λ r. ⌜ r ≡ now (self .entry) .layout ⌝ }
     {

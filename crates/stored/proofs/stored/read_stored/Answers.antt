@@ -19,11 +19,11 @@ returns g c =
     let offset = c .read-number-offset .ensures in
     let r = c .read-pixel .ensures in
     let at : c .read-number-offset .result + c .start-of .result ≡ offsetOf bs l (segmentOf (l .cut) (l .width) x y) + startOf l x y =
-        ap₂ (λ a b. a + b) (offset .value ∙ ap (offsetOf bs l) (c .segment-of-segment .ensures)) (c .start-of .ensures) in
+    ap₂ (λ a b. a + b) (offset .value ∙ ap (offsetOf bs l) (c .segment-of-segment .ensures)) (c .start-of .ensures) in
     let read : c .read-pixel .result ≡ pixelFrom bs (l .kind .photometric) (l .kind .bits)
-        (offsetOf bs l (segmentOf (l .cut) (l .width) x y) + startOf l x y) (firstSample l x % perByte (l .kind .bits)) =
-        r .value
-        ∙ (λ i. pixelFrom (offset .looked .same i) (l .kind .photometric) (l .kind .bits) (at i) (c .first-sample .ensures i % perByte (l .kind .bits))) in
+    (offsetOf bs l (segmentOf (l .cut) (l .width) x y) + startOf l x y) (firstSample l x % perByte (l .kind .bits)) =
+    r .value
+    ∙ (λ i. pixelFrom (offset .looked .same i) (l .kind .photometric) (l .kind .bits) (at i) (c .first-sample .ensures i % perByte (l .kind .bits))) in
     record {
       value = read ∙ pixel-from bs l x y (c .pre .sane .kind);
       same = r .same ∙ offset .looked .same;
