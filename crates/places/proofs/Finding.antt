@@ -60,11 +60,11 @@ module _ (bs : List ℕ) (l : Layout) (len : ℕ) where
   from-found (suc left) s k a b t f =
       ⊎-elim
       (λ h. cond-false (free bs l len (512 * s)) (Some (512 * s)) (placeFrom left bs l len (s + 1)) (f s (omega arith) h)
-        ∙ from-found left (s + 1) k (omega arith) (omega arith) t (λ j c d. f j (omega arith) d))
+      ∙ from-found left (s + 1) k (omega arith) (omega arith) t (λ j c d. f j (omega arith) d))
       (λ h.
-        let e : k ≡ s = omega arith in
-        cond-true (free bs l len (512 * s)) (Some (512 * s)) (placeFrom left bs l len (s + 1)) (subst (λ q. free bs l len (512 * q) ≡ true) e t)
-        ∙ ap (λ q. Some (512 * q)) (sym e))
+      let e : k ≡ s = omega arith in
+      cond-true (free bs l len (512 * s)) (Some (512 * s)) (placeFrom left bs l len (s + 1)) (subst (λ q. free bs l len (512 * q) ≡ true) e t)
+      ∙ ap (λ q. Some (512 * q)) (sym e))
       (cases-lt s k)
 
   pub from-none : (left s : ℕ) → ((j : ℕ) → s ≤ j → free bs l len (512 * j) ≡ false) → placeFrom left bs l len s ≡ None

@@ -57,16 +57,16 @@ passed-tried : (all : List Span) (len place : ℕ) (s : Span) → ((q : ℕ) →
 passed-tried all len place s each t =
     cond-both (shares place len s) (512 * behind (s .place) (s .count)) place (Tried all len)
     (λ h.
-      let m = moves len place s h in
-      let a = t .above in
-      record {
-        multiple = omega arith;
-        above = omega arith;
-        lower = λ j k b.
-            ⊎-elim (λ c. t .lower j k c)
-            (λ c. each (512 * j) (shares-from (512 * j) len s (shared-up place len (512 * j) s c b (shares-true place len s h))))
-            (cases-lt (512 * j) place);
-      })
+    let m = moves len place s h in
+    let a = t .above in
+    record {
+      multiple = omega arith;
+      above = omega arith;
+      lower = λ j k b.
+          ⊎-elim (λ c. t .lower j k c)
+          (λ c. each (512 * j) (shares-from (512 * j) len s (shared-up place len (512 * j) s c b (shares-true place len s h))))
+          (cases-lt (512 * j) place);
+    })
     (λ _. t)
 
 -- a look at each of some spans

@@ -55,13 +55,13 @@ shared-bytes : (place len p c : ℕ) → 0 < len → 0 < c → place / 512 < beh
 shared-bytes place len p c a b f g none =
     ⊎-elim
     (λ h. ⊎-elim
-      (λ k. none (512 * (p / 512)) p (omega arith) (omega arith) (omega arith) (omega arith) (omega arith))
-      (λ k. none place p (omega arith) (omega arith) (omega arith) (omega arith) (omega arith))
-      (cases-lt (place / 512) (p / 512)))
+    (λ k. none (512 * (p / 512)) p (omega arith) (omega arith) (omega arith) (omega arith) (omega arith))
+    (λ k. none place p (omega arith) (omega arith) (omega arith) (omega arith) (omega arith))
+    (cases-lt (place / 512) (p / 512)))
     (λ h. ⊎-elim
-      (λ k. none place (512 * (place / 512)) (omega arith) (omega arith) (omega arith) (omega arith) (omega arith))
-      (λ k. none place p (omega arith) (omega arith) (omega arith) (omega arith) (omega arith))
-      (cases-lt (p / 512) (place / 512)))
+    (λ k. none place (512 * (place / 512)) (omega arith) (omega arith) (omega arith) (omega arith) (omega arith))
+    (λ k. none place p (omega arith) (omega arith) (omega arith) (omega arith) (omega arith))
+    (cases-lt (p / 512) (place / 512)))
     (cases-lt place p)
 
 -- the test tells whether the bytes are clear of the spans
@@ -81,9 +81,9 @@ clear-clears [] place len f = refl
 clear-clears (s ∷ ss) place len f =
     and-from (not (shares place len s)) (clears ss place len)
     (⊎-elim
-      (λ t. absurd (let h = shares-true place len s t in shared-bytes place len (s .place) (s .count) (h .some) (h .any) (h .ahead) (h .after) (λ i e a b c d. f i e a b (inl (c, d)))))
-      (λ t. not-from-false (shares place len s) t)
-      (cases-bool (shares place len s)))
+    (λ t. absurd (let h = shares-true place len s t in shared-bytes place len (s .place) (s .count) (h .some) (h .any) (h .ahead) (h .after) (λ i e a b c d. f i e a b (inl (c, d)))))
+    (λ t. not-from-false (shares place len s) t)
+    (cases-bool (shares place len s)))
     (clear-clears ss place len (λ i e a b c. f i e a b (inr c)))
 
 -- a block that shares a sector with the first of some spans is not clear of them, nor is one that is not clear of the others

@@ -7,6 +7,9 @@ ghost use Rattle.places.specs.Places.{behind, shares};
 ghost use Rattle.places.specs.Search.{spanOf, passed};
 use entries::entry::Directory;
 
+// The bytes of a sector.
+pub const SECTOR: u64 = 512;
+
 // So many bytes from a place on.
 #[derive(Clone, Copy)]
 pub struct Extent {
@@ -20,7 +23,7 @@ impl Extent {
         requires { ⌜ self .place + self .count < 2 ^ 40 ⌝ }
         ensures { λ r. ⌜ r ≡ behind (self .place) (self .count) ⌝ }
     {
-        (self.place + self.count + 511) / 512
+        (self.place + self.count + (SECTOR - 1)) / SECTOR
     }
 
     // Whether it has a byte in a sector in which another has one.
@@ -31,8 +34,8 @@ impl Extent {
     {
         self.count > 0
             && other.count > 0
-            && self.place / 512 < other.behind()
-            && other.place / 512 < self.behind()
+            && self.place / SECTOR < other.behind()
+            && other.place / SECTOR < self.behind()
     }
 
     // The place of a block of `len` bytes once an extent is looked at: behind it if they share a sector.
@@ -44,7 +47,7 @@ impl Extent {
     {
         let block = Extent { place, count: len };
         if block.shares(self) {
-            512 * self.behind()
+            SECTOR * self.behind()
         } else {
             place
         }
