@@ -6,10 +6,11 @@ use mathlib.Core.Bool.{Bool, true, false, cond, _&&_, _||_}
 use mathlib.Core.List.{List, [], _∷_, _++_, map}
 use native.Mathlib.Omega.{arith}
 use lib.Dec.{eqb, ltb, leb}
-use lib.ListN.{length, take, drop, getD}
+use lib.ListN.{length, take, drop, getD, replicate}
 use Rattle.std.specs.Iters.{counting}
 use Rattle.std.specs.declared.result.Result.{Result}
 use Rattle.std.specs.declared.result.Result.the-variants.{Ok, Err}
+use Rattle.std.proofs.shelf.Lists.{length-append, length-replicate}
 use Rattle.std.proofs.shelf.Tests.{cond-both, and-parts, ltb-true}
 use Rattle.faults.specs.declared.fault.Check.the-variants.{Page}
 use Rattle.faults.specs.declared.fault.Fault.{Fault}
@@ -50,12 +51,16 @@ use Rattle.blocks.proofs.Chains.{holds-self}
 use Rattle.blocks.proofs.Directory.{GoodAll, Said, directory-held, entries-pass}
 use Rattle.blocks.proofs.Fields.{good-fields, ascending-fields, count-fields, outers-fields, head-length}
 use Rattle.blocks.proofs.Numbers.{number-held}
-use Rattle.blocks.proofs.Places.{length-segment, full-length, segments-length}
-use Rattle.roundtrip.specs.Laws.{Drafted, Has-picture, Opens-as, Page-round-trip, Round-trip}
+use Rattle.blocks.proofs.Places.{length-segment, full-length, segments-length, length-block}
+use Rattle.roundtrip.specs.Laws.{Drafted, Has-picture, Opens-as, Page-round-trip, Round-trip, fileOf, File-opens}
 use Rattle.roundtrip.proofs.Reading.{entriesBy, HeldBy}
 use Rattle.roundtrip.proofs.Page.{laid-out}
 use Rattle.roundtrip.proofs.Segments.{offset-read, needed-is, page-filled, pixel-back}
 use Rattle.roundtrip.proofs.Spans.{Between, between-covered, between-append, between-map, between-values}
+
+length-magic : (o : Endian) → length (magic o) ≡ 4
+length-magic Little = refl
+length-magic Big = refl
 
 module _ (q : Outline) (at : ℕ → ℕ → ℕ) (place : ℕ) (bs : List ℕ) (proper : Proper q) (many : segmentsIn q ≤ 1024)
     (aligned : place % 512 ≡ 0) (far : 512 ≤ place) (small : length bs < 2147483648) (here : Holds bs place (block q at place)) where
@@ -172,10 +177,6 @@ module _ (q : Outline) (at : ℕ → ℕ → ℕ) (place : ℕ) (bs : List ℕ) 
   -- the file
 
   module _ (head : Holds bs 0 (header (q .endian) place)) where
-    length-magic : (o : Endian) → length (magic o) ≡ 4
-    length-magic Little = refl
-    length-magic Big = refl
-
     magic-is : take 4 bs ≡ magic (q .endian)
     magic-is =
         ap (λ n. take n bs) (sym (length-magic (q .endian)))
@@ -247,3 +248,18 @@ round-trip o tiled wide high p place bs d small here head =
           ∙ ap (λ x. Ok (record { picture = x; orientation = 1 })) (page-round-trip o tiled wide high p place bs d small here .picture);
       others = no-other q (p .at) place bs proper (d .few) (d .aligned) (d .past) small here head;
     }
+
+pub smallest-file : File-opens
+smallest-file o tiled wide high p d short =
+    let q : Outline = outlineOf o tiled wide high p in
+    let file : List ℕ = fileOf o tiled wide high p in
+    let here : List ℕ = blockOf o tiled wide high p 512 in
+    let rest : List ℕ = replicate 504 0 ++ here in
+    let eight : length (header o 512) ≡ 8 = omega (arith, length-append (magic o) (numberBytes o 4 512), length-magic o) in
+    let gap : length (replicate {A = ℕ} 504 0) ≡ 504 = length-replicate {A = ℕ} 504 0 in
+    let len : length (fileOf o tiled wide high p) ≡ 512 + blockSize (outlineOf o tiled wide high p) =
+    omega (arith, length-append (header o 512) rest, length-append (replicate 504 0) here, length-block q (p .at) (drafted-proper o tiled wide high p 512 d) 512) in
+    let after-head : Holds file 8 rest = holds-back file 0 8 (header o 512) rest (omega arith) (holds-self file) in
+    round-trip o tiled wide high p 512 file d (omega arith)
+    (holds-back file 8 512 (replicate 504 0) here (omega arith) after-head)
+    (holds-front file 0 (header o 512) rest (holds-self file))

@@ -1,9 +1,9 @@
 -- What bytes that hold the block of a picture open as. Assumes nothing.
 use Prim.Native.Nat.{ℕ, _+_, _%_, _^_, _<_, _≤_}
 use mathlib.Core.Bool.{Bool, true}
-use mathlib.Core.List.{List, [], _∷_}
+use mathlib.Core.List.{List, [], _∷_, _++_}
 use mathlib.Core.Path.{_≡_}
-use lib.ListN.{length}
+use lib.ListN.{length, replicate}
 use Rattle.std.specs.declared.result.Result.the-variants.{Ok, Err}
 use Rattle.faults.specs.declared.fault.Check.the-variants.{Page}
 use Rattle.faults.specs.Faults.{bare}
@@ -55,3 +55,13 @@ Round-trip = (o : Endian) (tiled : Bool) (wide high : ℕ) (p : Picture) (place 
     → Drafted tiled wide high p (outlineOf o tiled wide high p) place → length bs < 2 ^ 31
     → Holds bs place (blockOf o tiled wide high p place) → Holds bs 0 (header o place)
     → Opens-as bs p (outlineOf o tiled wide high p) place
+
+-- the smallest file of a picture: the header, 0 up to place 512, and the block there
+abbrev pub fileOf : Endian → Bool → ℕ → ℕ → Picture → List ℕ
+fileOf o tiled wide high p = header o 512 ++ (replicate 504 0 ++ blockOf o tiled wide high p 512)
+
+-- it opens as the picture, if it is not too long
+abbrev pub File-opens : Type 0
+File-opens = (o : Endian) (tiled : Bool) (wide high : ℕ) (p : Picture)
+    → Drafted tiled wide high p (outlineOf o tiled wide high p) 512 → 512 + blockSize (outlineOf o tiled wide high p) < 2 ^ 31
+    → Opens-as (fileOf o tiled wide high p) p (outlineOf o tiled wide high p) 512
