@@ -1,11 +1,11 @@
 // The drafts of a holder over a card.
 ghost use mathlib.Core.Path.{_≡_};
-ghost use Rattle.drafts.specs.declared.call.Call.the-variants.{Rest, Switch, Scrap};
+ghost use Rattle.drafts.specs.declared.call.Call.the-variants.{Begin, Rest, Switch, Keep, Scrap};
 ghost use Rattle.drafts.specs.Steps.{Step, Sound, sizedFor, sectors};
 ghost use Rattle.drafts.specs.Mem.{memOf};
 ghost use Rattle.plans.specs.Blocks.{header};
 ghost use Rattle.holder.specs.Worlds.{worldOf};
-ghost use Rattle.holder.specs.Told.{toldUnit, toldRest, toldSwitch, liveRest, liveSwitch, WroteBy};
+ghost use Rattle.holder.specs.Told.{toldUnit, toldBegin, toldRest, toldSwitch, liveBegin, liveRest, liveSwitch, WroteBy};
 use crate::holder::Holder;
 use crate::shown::HolderGrid;
 use crate::token::Begun;
@@ -16,10 +16,12 @@ use drafts::state::Draft;
 use drafts::state::Stage;
 use faults::fault::Check;
 use faults::fault::Fault;
+use places::search::find_place;
 use plans::header::header_bytes;
 use plans::plan::Plan;
 use plans::view::View;
 use raster::grid::Grid;
+use raster::turns::then;
 use store::traits::Card;
 use stored::page::Page;
 
@@ -47,6 +49,33 @@ fn sectors_of(size: u64) -> u64
 }
 
 impl<C: Card> Holder<C> {
+    // Begins a draft of the picture through a view by a plan; answers the sectors to carry.
+    pub fn begin(&mut self, view: View, plan: Plan) -> Result<(Begun, u64), Fault>
+        ensures step { λ r. ⌜ Step (Begin view plan) (worldOf (C·Store .seen) (C·Store .may) (C·Store .trail) (now (self .entry))) (toldBegin r) (worldOf (C·Store .seen) (C·Store .may) (C·Store .trail) (now (self .exit))) ⌝ }
+        ensures live { λ r. ⌜ liveBegin r ⌝ }
+    {
+        if self.state.draft.is_some() {
+            return Err(Check::Busy.fault());
+        }
+        let Some(page) = self.state.page else {
+            return Err(Check::Closed.fault());
+        };
+        if page.layout().directories != 1 {
+            return Err(Check::Pages.fault());
+        }
+        let size = size_for(page, view, plan)?;
+        let Some(place) = find_place(&mut self.store, page, size) else {
+            return Err(Check::Space.fault());
+        };
+        self.state.draft = Some(Draft {
+            view,
+            plan,
+            place,
+            stage: Stage::Begun(0),
+        });
+        Ok((Begun::new(), sectors_of(size)))
+    }
+
     // Settles the card under a draft that is carried.
     pub fn rest(&mut self, token: Begun) -> Result<Rested, (Begun, Fault)>
         ensures step { λ r. ⌜ Step Rest (worldOf (C·Store .seen) (C·Store .may) (C·Store .trail) (now (self .entry))) (toldRest r) (worldOf (C·Store .seen) (C·Store .may) (C·Store .trail) (now (self .exit))) ⌝ }
@@ -87,6 +116,25 @@ impl<C: Card> Holder<C> {
         let _ = self.point(draft);
         self.state.draft = Some(draft.at(Stage::Switched));
         Ok(token.switched())
+    }
+
+    // Settles the card, and shows the page that the header now leads to.
+    pub fn keep(&mut self, token: Switched) -> Result<(), Fault>
+        ensures { λ r. ⌜ Step Keep (worldOf (C·Store .seen) (C·Store .may) (C·Store .trail) (now (self .entry))) (toldUnit r) (worldOf (C·Store .seen) (C·Store .may) (C·Store .trail) (now (self .exit))) ⌝ }
+    {
+        token.spend();
+        let Some(draft) = self.state.draft else {
+            return Err(Check::Stage.fault());
+        };
+        let Stage::Switched = draft.stage else {
+            return Err(Check::Stage.fault());
+        };
+        self.store.settle();
+        let found = Page::open(&mut self.store, 0);
+        self.state.page = found.ok();
+        self.state.arrow = then(self.state.arrow, draft.view.turn);
+        self.state.draft = None;
+        Ok(())
     }
 
     // Gives up the draft.

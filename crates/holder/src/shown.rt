@@ -2,10 +2,10 @@
 ghost use mathlib.Core.Path.{_≡_};
 ghost use lib.ListN.{length};
 ghost use Rattle.std.specs.declared.result.Result.the-variants.{Ok};
-ghost use Rattle.drafts.specs.declared.call.Call.the-variants.{Window, Arrow};
+ghost use Rattle.drafts.specs.declared.call.Call.the-variants.{Open, Window, Arrow};
 ghost use Rattle.drafts.specs.Steps.{Step, number, fresh};
 ghost use Rattle.netpbm.specs.Window.{windowBuffer};
-ghost use Rattle.holder.specs.Worlds.{worldOf, heldBy, pictureBy};
+ghost use Rattle.holder.specs.Worlds.{worldOf, heldBy, pictureBy, toldOpen};
 ghost use Rattle.holder.specs.Soundness.{holder-sound, holder-keeps};
 use crate::holder::Holder;
 use drafts::state::State;
@@ -14,6 +14,7 @@ use faults::fault::Fault;
 use netpbm::window::window;
 use raster::grid::*;
 use store::traits::Store;
+use stored::page::Page;
 
 pub impl<S: Store> Grid for Holder<S> as HolderGrid {
     ghost picture = { pictureBy (S·Store .seen) };
@@ -64,6 +65,20 @@ impl<S: Store> Holder<S> {
                 draft: None,
             },
         }
+    }
+
+    // Shows a page, from 0; refused, what is shown stays. Every call but a Busy one settles the store.
+    pub fn open(&mut self, page: u32) -> Result<(), Fault>
+        ensures { λ r. ⌜ Step (Open page) (worldOf (S·Store .seen) (S·Store .may) (S·Store .trail) (now (self .entry))) (toldOpen (pictureBy (S·Store .seen) (now (self .exit))) r) (worldOf (S·Store .seen) (S·Store .may) (S·Store .trail) (now (self .exit))) ⌝ }
+    {
+        if self.state.draft.is_some() {
+            return Err(Check::Busy.fault());
+        }
+        self.store.settle();
+        let found = Page::open(&mut self.store, page)?;
+        self.state.page = Some(found);
+        self.state.arrow = found.orientation();
+        Ok(())
     }
 
     // A rectangle of the picture as a Netpbm file; a refusal leaves the buffer as it was.
