@@ -3,8 +3,6 @@ use crate::failed::Failed;
 use crate::failed::FailedFromAlloc;
 use crate::failed::FailedFromIo;
 use crate::files::load;
-use drafts::call::Call;
-use faults::fault::Fault;
 use faults::shown::FaultDisplay;
 use holder::holder::Holder;
 use holder::shown::HolderGrid;
