@@ -2,6 +2,7 @@
 use crate::failed::Failed;
 use crate::failed::FailedFromAlloc;
 use crate::failed::FailedFromIo;
+use crate::failed::FailedFromRefused;
 use crate::files::load;
 use faults::shown::FaultDisplay;
 use holder::holder::Holder;
