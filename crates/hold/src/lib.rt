@@ -1,5 +1,5 @@
 // A card that keeps what was written last, and writes it below later.
-pub mod slots;
+mod slots;
 
 ghost use mathlib.Core.Path.{_≡_};
 ghost use mathlib.Core.Bool.{true, false};

@@ -29,7 +29,8 @@ impl<C: Store> Tray<C> {
     pub fn into_below(self) -> C
         ensures { λ r. ⌜ r ≡ self .below ⌝ }
     {
-        self.below
+        let Tray { below, .. } = self;
+        below
     }
 
     fn fits(&self) -> bool

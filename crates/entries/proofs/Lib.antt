@@ -1,0 +1,5 @@
+pub mod Looks
+pub mod Accepting
+pub mod Decoding
+pub mod Scanning
+pub mod Counting

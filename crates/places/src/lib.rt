@@ -1,0 +1,4 @@
+// Where a draft goes.
+pub mod extent;
+pub mod look;
+pub mod search;

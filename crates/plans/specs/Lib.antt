@@ -1,0 +1,6 @@
+pub mod Limits
+pub mod Views
+pub mod Outlines
+pub mod Directories
+pub mod Blocks
+pub mod Plans

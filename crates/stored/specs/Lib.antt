@@ -1,0 +1,5 @@
+pub mod Pixels
+pub mod Sane
+pub mod Soundness
+pub mod Reading
+pub mod Reads
