@@ -4,7 +4,7 @@ use Rattle.std.proofs.shelf.Results.{err-from-errBy}
 use Rattle.entries.proofs.Looks.{looked-on}
 use Rattle.pages.specs.Pages.{laidOut, valuesOf}
 use Rattle.pages.specs.Segments.{filled}
-use Rattle.opening.proofs.Stages.{page-1, page-2, page-3, laid-offsets}
+use Rattle.pages.proofs.Stages.{page-1, page-2, page-3, laid-offsets}
 use Rattle.opening.proofs.page.check_page.Needs as need
 
 pub returns-in-Break-fields : need.returns-in-Break-fields

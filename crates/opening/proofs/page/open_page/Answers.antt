@@ -6,7 +6,7 @@ use Rattle.std.proofs.shelf.Results.{err-from-errBy}
 use Rattle.reads.specs.Reads.{shortAt}
 use Rattle.reads.proofs.Gains.{no-gain-then}
 use Rattle.pages.specs.Opening.{pageOf}
-use Rattle.opening.proofs.Stages.{open-1, open-2, open-3, place-stands, entries-read}
+use Rattle.pages.proofs.Stages.{open-1, open-2, open-3, place-stands, entries-read}
 use Rattle.opening.proofs.page.open_page.Needs as need
 
 pub returns-in-Break-directories : need.returns-in-Break-directories
