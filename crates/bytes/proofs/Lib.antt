@@ -2,6 +2,7 @@ pub mod Digits
 pub mod Rows
 pub mod Patches
 pub mod Contents
+pub mod Laid
 pub mod Puts
 pub mod Runs
 pub mod Held

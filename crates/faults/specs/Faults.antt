@@ -1,8 +1,9 @@
 -- What each refusal is called, and how checks follow one another. Assumes nothing.
 use Prim.Native.Nat.{ℕ}
 use mathlib.Core.Bool.{Bool, true, false}
-use mathlib.Core.List.{List}
+use mathlib.Core.List.{List, _++_}
 use lib.Chars.{codes}
+use Rattle.std.specs.Written.{decimal}
 use Rattle.std.specs.declared.result.Result.{Result}
 use Rattle.std.specs.declared.result.Result.the-variants.{Ok, Err}
 use Rattle.faults.specs.declared.fault.Check.{Check}
@@ -62,3 +63,12 @@ refused false f after = after
 abbrev pub then : {A B : Type 0} → Result A Fault → (A → Result B Fault) → Result B Fault
 then (Ok x) after = after x
 then (Err f) after = Err f
+
+-- a fault as it is printed
+abbrev pub printed : Fault → List ℕ
+printed f =
+    codes "refused " ++ (decimal (report (f .check) .number)
+    ++ (codes " " ++ (report (f .check) .name
+    ++ (codes " page " ++ (decimal (f .page)
+    ++ (codes " tag " ++ (decimal (f .tag)
+    ++ (codes " place " ++ decimal (f .place)))))))))

@@ -80,15 +80,15 @@ pub follow-tells : (o : Endian) (bs cs xs : List ℕ) (n field link : ℕ) (r : 
 follow-tells o bs cs xs n field link r e k h = let z = sub-zero n in cc
 
 -- a turn that goes on, over the array with the link written into it
-pub walk-turns : (o : Endian) (bs xs : List ℕ) (n field link next : ℕ) → n ≤ 32 → n < length xs → link ≡ long o bs field → ended (take n xs) (long o bs field) ≡ false → followed o bs (take n xs) field (long o bs field) ≡ Ok next → walkFrom (33 - (n + 1)) o bs (take (n + 1) (set xs n link)) next ≡ walkFrom (33 - n) o bs (take n xs) field
-walk-turns o bs xs n field link next h l k e q =
-    let t = take-more-set xs n link l in
+pub walk-turns : (o : Endian) (bs xs ys : List ℕ) (n field link next : ℕ) → ys ≡ set xs n link → n ≤ 32 → n < length xs → link ≡ long o bs field → ended (take n xs) (long o bs field) ≡ false → followed o bs (take n xs) field (long o bs field) ≡ Ok next → walkFrom (33 - (n + 1)) o bs (take (n + 1) ys) next ≡ walkFrom (33 - n) o bs (take n xs) field
+walk-turns o bs xs ys n field link next w h l k e q =
+    let t = ap (take (n + 1)) w ∙ take-more-set xs n link l in
     let j : 33 - (n + 1) ≡ 32 - n = omega arith in
-    ap (λ m. walkFrom m o bs (take (n + 1) (set xs n link)) next) j
+    ap (λ m. walkFrom m o bs (take (n + 1) ys) next) j
     ∙ ap (λ ds. walkFrom (32 - n) o bs ds next) (t ∙ ap (λ d. take n xs ++ d ∷ []) k)
     ∙ sym (turns-left o bs (take n xs) field n h ∙ turn-goes o bs (take n xs) field (32 - n) next e q)
 
 -- what lies past the part in use stays
-pub rest-stays : (xs ys : List ℕ) (n link : ℕ) → drop n xs ≡ drop n ys → drop (n + 1) (set xs n link) ≡ drop (n + 1) ys
-rest-stays xs ys n link e =
-    drop-set-lt (n + 1) xs n link (omega arith) ∙ sym (drop-drop 1 n xs) ∙ ap (drop 1) e ∙ drop-drop 1 n ys
+pub rest-stays : (xs ys zs : List ℕ) (n link : ℕ) → ys ≡ set xs n link → drop n xs ≡ drop n zs → drop (n + 1) ys ≡ drop (n + 1) zs
+rest-stays xs ys zs n link w e =
+    ap (drop (n + 1)) w ∙ drop-set-lt (n + 1) xs n link (omega arith) ∙ sym (drop-drop 1 n xs) ∙ ap (drop 1) e ∙ drop-drop 1 n zs

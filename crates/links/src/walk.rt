@@ -1,9 +1,10 @@
 // The checks of the header and of the links.
 ghost use mathlib.Core.Path.{_≡_};
 ghost use mathlib.Core.List.{List};
-ghost use Prim.Native.Nat.{ℕ, _≤_};
-ghost use lib.ListN.{length, take, drop};
+ghost use Prim.Native.Nat.{ℕ, _<_, _≤_};
+ghost use lib.ListN.{length, drop, set};
 ghost use Rattle.std.specs.Vec.{made};
+ghost use Rattle.std.specs.shelf.Text.{sameBytes};
 ghost use Rattle.store.specs.Rules.{NoGain};
 ghost use Rattle.links.specs.Links.{named, headed, has, stray, badCount, linkChecked, directoryChecked, followed, chained, noted, walked};
 ghost use Rattle.links.specs.Chain.{Chain-found, Chain-local};
@@ -17,13 +18,20 @@ use reads::numbers::read_long;
 use reads::numbers::read_short;
 use store::traits::Store;
 
+// Whether four bytes are those given.
+fn is_same(head: [u8; 4], given: [u8; 4]) -> bool
+    ensures { λ r. ⌜ r ≡ sameBytes head given ⌝ }
+{
+    head == given
+}
+
 // The byte order that the first four bytes name.
 fn order_of(head: [u8; 4]) -> Result<Endian, Fault>
     ensures { λ r. ⌜ r ≡ named head ⌝ }
 {
-    if head == *b"II*\0" {
+    if is_same(head, *b"II*\0") {
         Ok(Endian::Little)
-    } else if head == *b"MM\0*" {
+    } else if is_same(head, *b"MM\0*") {
         Ok(Endian::Big)
     } else {
         Err(Check::Magic.fault())
@@ -98,6 +106,14 @@ fn check_directory(n: u32, page: u32, place: u32, entries: u16) -> Result<u32, F
     Ok(end as u32)
 }
 
+// Notes the place of directory `count`.
+fn note(visited: &mut [u32; MOST], count: usize, link: u32)
+    requires { ⌜ count < 32 ⌝ }
+    ensures { λ _. ⌜ now (visited .exit) ≡ set (now (visited .entry)) count link ⌝ }
+{
+    visited[count] = link;
+}
+
 // Follows a link that stands at `field`, after the directories met: the place of the next link, or the first fault.
 fn follow<S: Store>(
     store: &mut S,
@@ -141,7 +157,7 @@ fn follow_links<S: Store>(
         }
         match follow(store, endian, &visited[0..count], field, link) {
             Ok(next) => {
-                visited[count] = link;
+                note(visited, count, link);
                 count += 1;
                 field = next;
             }

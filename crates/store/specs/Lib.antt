@@ -1,2 +1,4 @@
 pub mod Rules
 pub mod Lent
+pub mod Power
+pub mod Promises

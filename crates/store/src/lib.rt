@@ -1,3 +1,4 @@
-// Stores of bytes by sectors of 512, and the two that lie over lent memory.
+// Stores of bytes by sectors of 512, the two that lie over lent memory, and what every store comes to.
+pub mod promises;
 pub mod slices;
 pub mod traits;

@@ -15,8 +15,8 @@ use Rattle.links.proofs.walk.follow_links.Needs as need
 pub loop-count-holds : need.loop-count-holds
 loop-count-holds g c = (refl, refl, omega arith, omega arith, omega arith, refl, no-gain _, no-gain _)
 
-pub index-visited-count : need.index-visited-count
-index-visited-count g c =
+pub note-requires : need.note-requires
+note-requires g c κs =
     let o = c .args .endian in
     let bs = g .S·Store .seen (c .args .store .now) in
     let l = c .loop-count in
@@ -43,13 +43,13 @@ loop-count-again g c =
     let q = follow-tells o bs _ (l .visited) n at _ _ same link (c .follow .ensures .value) ∙ c .in-Ok .is in
     let e : ended met (long o bs at) ≡ false = grind (arith, tells) in
     let ok = followed-ok o bs met at _ _ q in
-    let go = walk-turns o bs (l .visited) n at _ _ (l .inv .2) (omega arith) link e q in (
+    let go = walk-turns o bs (l .visited) _ n at _ _ (c .note .ensures) (l .inv .2) (omega arith) link e q in (
       go ∙ l .inv .0,
       c .follow .ensures .same ∙ same,
       omega arith,
-      length-set _ _ _ ∙ l .inv .3,
+      ap length (c .note .ensures) ∙ length-set (l .visited) n _ ∙ l .inv .3,
       ok .1,
-      rest-stays (l .visited) _ n _ (l .inv .5),
+      rest-stays (l .visited) _ _ n _ (c .note .ensures) (l .inv .5),
       no-gain-then (l .inv .6) (no-gain-then (c .read-long-link .ensures .lists) (c .follow .ensures .lists)),
       no-gain-then (l .inv .7) (no-gain-then (c .read-long-link .ensures .trails) (c .follow .ensures .trails)),
     )

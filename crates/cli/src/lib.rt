@@ -1,0 +1,5 @@
+// The commands of the program.
+pub mod commands;
+pub mod failed;
+pub mod info;
+pub mod meaning;
