@@ -8,7 +8,7 @@ use native.Mathlib.Omega.{arith}
 use lib.Dec.{leb}
 use lib.ListN.{length}
 use Rattle.std.proofs.shelf.Lists.{getD-past}
-use Rattle.std.proofs.shelf.Tests.{cond-false, eqb-true, leb-false, lt-leb}
+use Rattle.std.proofs.shelf.Tests.{cond-true, cond-false, eqb-true, leb-false, le-leb, lt-leb}
 use Rattle.bytes.specs.Digits.{packed, digit}
 use Rattle.bytes.specs.Rows.{byte, perByte, sampleIn}
 use Rattle.bytes.proofs.Digits.{packed-same}
@@ -19,7 +19,7 @@ use Rattle.raster.specs.Picture.{allowed, kindOf}
 use Rattle.pages.specs.declared.layout.Layout.{Layout}
 use Rattle.pages.specs.Geometry.{samplesOf}
 use Rattle.pages.specs.Segments.{offsetOf}
-use Rattle.stored.specs.Pixels.{segmentOf, rowStart, firstSample, rowPlace, pixelIn, storedPixel}
+use Rattle.stored.specs.Pixels.{segmentOf, rowStart, firstSample, rowPlace, pixelPlace, pixelIn, storedPixel}
 use Rattle.stored.specs.Reading.{startOf, sampleAt, rgbAt, pixelFrom}
 
 -- the pixel of n samples, the first of which is a given one of the row that begins at a place
@@ -78,16 +78,26 @@ from-by : (bs : List ℕ) (p : Photometric) (b row first : ℕ) → allowed (kin
     pixelBy bs b (samplesOf (kindOf p b)) row first ≡ pixelFrom bs p b (row + first / perByte b) (first % perByte b)
 from-by bs WhiteIsZero b row first t = grey-from bs b row first
 from-by bs BlackIsZero b row first t = grey-from bs b row first
-from-by bs Rgb b row first t = 
+from-by bs Rgb b row first t =
     subst (λ n. pixelBy bs n 3 row first ≡ rgbAt bs (row + first / perByte n)) (sym (eqb-true b 8 t)) (rgb-from bs row first)
 
 -- the pixel of a row is the one from its own place on
+pub pixel-row : (bs : List ℕ) (l : Layout) (x y : ℕ) → allowed (l .kind) ≡ true →
+    storedPixel bs l x y
+    ≡ pixelFrom bs (l .kind .photometric) (l .kind .bits) (rowPlace bs l x y + firstSample l x / perByte (l .kind .bits)) (firstSample l x % perByte (l .kind .bits))
+unfolding storedPixel pixelIn
+pixel-row bs l x y t = from-by bs (l .kind .photometric) (l .kind .bits) (rowPlace bs l x y) (firstSample l x) t
+
 pub pixel-from : (bs : List ℕ) (l : Layout) (x y : ℕ) → allowed (l .kind) ≡ true →
     pixelFrom bs (l .kind .photometric) (l .kind .bits) (offsetOf bs l (segmentOf (l .cut) (l .width) x y) + startOf l x y) (firstSample l x % perByte (l .kind .bits))
     ≡ storedPixel bs l x y
-unfolding storedPixel pixelIn
 pixel-from bs l x y t =
     let offset : ℕ = offsetOf bs l (segmentOf (l .cut) (l .width) x y) in
-    let at : offset + startOf l x y ≡ offset + rowStart l y + firstSample l x / perByte (l .kind .bits) = omega arith in
-    ap (λ n. pixelFrom bs (l .kind .photometric) (l .kind .bits) n (firstSample l x % perByte (l .kind .bits))) at
-    ∙ sym (from-by bs (l .kind .photometric) (l .kind .bits) (rowPlace bs l x y) (firstSample l x) t)
+    let at : offset + startOf l x y ≡ rowPlace bs l x y + firstSample l x / perByte (l .kind .bits) = omega arith in
+    ap (λ n. pixelFrom bs (l .kind .photometric) (l .kind .bits) n (firstSample l x % perByte (l .kind .bits))) at ∙ sym (pixel-row bs l x y t)
+
+-- a pixel whose bytes all lie in the file
+pub pixel-inside : (bs : List ℕ) (l : Layout) (x y : ℕ) → pixelPlace bs l x y + samplesOf (l .kind) ≤ length bs → storedPixel bs l x y ≡ pixelIn bs l x y
+unfolding storedPixel
+pixel-inside bs l x y h =
+    cond-true (inside bs (pixelPlace bs l x y) (samplesOf (l .kind))) (pixelIn bs l x y) 0 (le-leb (pixelPlace bs l x y + samplesOf (l .kind)) (length bs) h)

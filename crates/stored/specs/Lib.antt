@@ -2,3 +2,4 @@ pub mod Pixels
 pub mod Sane
 pub mod Soundness
 pub mod Reading
+pub mod Reads

@@ -10,7 +10,7 @@ use Rattle.bytes.specs.Digits.{packed}
 use Rattle.bytes.specs.Rows.{byte, perByte, sampleIn}
 use Rattle.reads.specs.Reads.{inside}
 use Rattle.raster.specs.Picture.{Picture, framed}
-use Rattle.raster.specs.Views.{turnBy}
+use Rattle.raster.specs.Views.{swaps, turnBy}
 use Rattle.pages.specs.declared.layout.Cut.{Cut}
 use Rattle.pages.specs.declared.layout.Layout.{Layout}
 use Rattle.pages.specs.Geometry.{samplesOf, across, rowBytes}
@@ -59,6 +59,13 @@ stored bs l = record {
 -- the picture of a page
 abbrev pub pictureOf : List ℕ → Layout → Picture
 pictureOf bs l = turnBy (l .orientation) (stored bs l)
+
+-- the sides of that picture: orientations 5 to 8 swap those of the stored grid
+abbrev pub shownWidth : Layout → ℕ
+shownWidth l = cond (swaps (l .orientation)) (l .height) (l .width)
+
+abbrev pub shownHeight : Layout → ℕ
+shownHeight l = cond (swaps (l .orientation)) (l .width) (l .height)
 
 -- what is shown of a page
 pub record Shown : Type 0 where

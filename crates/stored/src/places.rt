@@ -1,23 +1,25 @@
 // Where a pixel lies: under the orientation, and in its segment.
 ghost use mathlib.Core.Path.{_≡_};
-ghost use Prim.Native.Nat.{_<_, _≤_};
-ghost use Rattle.bytes.specs.Rows.{perByte};
-ghost use Rattle.raster.specs.Picture.{allowed};
-ghost use Rattle.raster.specs.Views.{columnBelow, rowBelow};
-ghost use Rattle.pages.specs.Geometry.{samplesOf, across, rowBytes};
-ghost use Rattle.stored.specs.Pixels.{segmentOf, rowStart, firstSample};
+ghost use Prim.Native.Nat.{_<_};
+ghost use Rattle.raster.specs.Views.{swaps, columnBelow, rowBelow};
+ghost use Rattle.stored.specs.Pixels.{segmentOf, firstSample};
 ghost use Rattle.stored.specs.Sane.{Sane};
 ghost use Rattle.stored.specs.Reading.{startOf};
-use pages::layout::Cut;
+use pages::geometry::samples_of;
 use pages::layout::Layout;
-use raster::grid::Kind;
-use raster::grid::Photometric;
+
+// Whether a turn swaps the sides.
+pub fn swaps(turn: u8) -> bool
+    ensures { λ r. ⌜ r ≡ swaps turn ⌝ }
+{
+    turn >= 5 && turn <= 8
+}
 
 // The column below that a turn shows at column x, row y, over a picture so wide.
 pub fn column_below(turn: u8, width: u32, x: u32, y: u32) -> u32
     ensures { λ r. ⌜ r ≡ columnBelow turn width x y ⌝ }
 {
-    let column = if turn >= 5 && turn <= 8 { y } else { x };
+    let column = if swaps(turn) { y } else { x };
     match turn {
         2 | 3 | 7 | 8 => width.saturating_sub(1).saturating_sub(column),
         _ => column,
@@ -28,21 +30,10 @@ pub fn column_below(turn: u8, width: u32, x: u32, y: u32) -> u32
 pub fn row_below(turn: u8, height: u32, x: u32, y: u32) -> u32
     ensures { λ r. ⌜ r ≡ rowBelow turn height x y ⌝ }
 {
-    let row = if turn >= 5 && turn <= 8 { x } else { y };
+    let row = if swaps(turn) { x } else { y };
     match turn {
         3 | 4 | 6 | 7 => height.saturating_sub(1).saturating_sub(row),
         _ => row,
-    }
-}
-
-// The samples of a pixel.
-pub fn samples_of(kind: Kind) -> u32
-    ensures value { λ r. ⌜ r ≡ samplesOf kind ⌝ }
-    ensures few { λ r. ⌜ r ≤ 3 ⌝ }
-{
-    match kind.photometric {
-        Photometric::Rgb => 3,
-        _ => 1,
     }
 }
 
@@ -54,33 +45,24 @@ pub fn segment_of(layout: &Layout, x: u32, y: u32) -> u32
     ensures { λ r. ⌜ r ≡ segmentOf (now (layout .entry) .cut) (now (layout .entry) .width) x y ⌝ }
 {
     let cut = layout.cut;
-    let across = (layout.width + (cut.wide - 1)) / cut.wide;
+    let across = cut.across(layout.width) as u32;
     y / cut.high * across + x / cut.wide
-}
-
-// The bytes of a segment's row: each row begins with a new byte.
-pub fn row_bytes(layout: &Layout) -> u32
-    requires { ⌜ Sane (now layout) ⌝ }
-    ensures value { λ r. ⌜ r ≡ rowBytes (now (layout .entry) .cut) (now (layout .entry) .kind) ⌝ }
-    ensures few { λ r. ⌜ r ≤ 49152 ⌝ }
-{
-    (layout.cut.wide * samples_of(layout.kind) * layout.kind.bits as u32 + 7) / 8
 }
 
 // Which sample of its row is the first of the pixel at column x.
 pub fn first_sample(layout: &Layout, x: u32) -> u32
     requires { ⌜ Sane (now layout) ⌝ }
-    ensures value { λ r. ⌜ r ≡ firstSample (now (layout .entry)) x ⌝ }
-    ensures few { λ r. ⌜ r < 49152 ⌝ }
+    ensures { λ r. ⌜ r ≡ firstSample (now (layout .entry)) x ⌝ }
 {
-    x % layout.cut.wide * samples_of(layout.kind)
+    x % layout.cut.wide * samples_of(layout.kind) as u32
 }
 
 // How far into its segment the bytes of the pixel at column x, row y begin.
-pub fn start_of(layout: &Layout, x: u32, y: u32) -> u32
+pub fn start_of(layout: &Layout, x: u32, y: u32) -> u64
     requires { ⌜ Sane (now layout) ⌝ }
     ensures { λ r. ⌜ r ≡ startOf (now (layout .entry)) x y ⌝ }
 {
+    let row = layout.cut.row_bytes(layout.kind);
     let per = 8 / layout.kind.bits as u32;
-    y % layout.cut.high * row_bytes(layout) + first_sample(layout, x) / per
+    (y % layout.cut.high) as u64 * row + (first_sample(layout, x) / per) as u64
 }

@@ -4,8 +4,10 @@ ghost use mathlib.Core.Bool.{true};
 ghost use Prim.Native.Nat.{_+_, _-_, _*_, _^_, _<_};
 ghost use Rattle.bytes.specs.Digits.{digit, packed};
 ghost use Rattle.bytes.specs.Rows.{Bits, byte, perByte};
-ghost use Rattle.stored.specs.Reading.{sampleAt, rgbAt};
+ghost use Rattle.stored.specs.Reading.{sampleAt, rgbAt, pixelFrom};
 ghost use Rattle.store.specs.Rules.{NoGain};
+use raster::grid::Kind;
+use raster::grid::Photometric;
 use reads::numbers::fill;
 use reads::numbers::read_byte;
 use store::traits::Store;
@@ -58,4 +60,22 @@ pub fn read_rgb<S: Store>(store: &mut S, place: u32) -> u32
     let mut bytes = [0u8; 3];
     fill(store, place, &mut bytes);
     rgb(bytes[0], bytes[1], bytes[2])
+}
+
+// The pixel of a kind whose bytes begin at a place, with sample s of the first; at most one read of the store.
+pub fn read_pixel<S: Store>(store: &mut S, kind: Kind, place: u64, s: u32) -> u32
+    requires bits { ⌜ Bits (kind .bits) ⌝ }
+    requires one { ⌜ s < perByte (kind .bits) ⌝ }
+    ensures value { λ r. ⌜ r ≡ pixelFrom (S·Store .seen (now (store .entry))) (kind .photometric) (kind .bits) place s ⌝ }
+    ensures same { λ _. ⌜ S·Store .seen (now (store .exit)) ≡ S·Store .seen (now (store .entry)) ⌝ }
+    ensures lists { λ _. ⌜ NoGain (S·Store .may (now (store .entry))) (S·Store .may (now (store .exit))) ⌝ }
+    ensures trails { λ _. ⌜ NoGain (S·Store .trail (now (store .entry))) (S·Store .trail (now (store .exit))) ⌝ }
+{
+    if place > u32::MAX as u64 {
+        return 0;
+    }
+    match kind.photometric {
+        Photometric::Rgb => read_rgb(store, place as u32),
+        _ => read_sample(store, place as u32, kind.bits as u32, s),
+    }
 }
