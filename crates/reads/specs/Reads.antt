@@ -4,8 +4,7 @@ use mathlib.Core.Bool.{Bool, cond}
 use mathlib.Core.List.{List}
 use lib.Dec.{leb}
 use lib.ListN.{length, take, drop, replicate}
-use Rattle.bytes.specs.Digits.{number}
-use Rattle.bytes.specs.Rows.{byte}
+use Rattle.bytes.specs.Numbers.{short, long}
 use Rattle.bytes.specs.declared.endian.Endian.{Endian}
 
 -- n bytes from a place on lie within the list
@@ -24,9 +23,9 @@ abbrev pub part : List ℕ → ℕ → ℕ → List ℕ
 part bs place n = partOr (zeros n) bs place n
 
 -- the number in the two bytes from a place on, or 0 if they do not both lie within the list
-abbrev pub shortAt : Endian → List ℕ → ℕ → ℕ
-shortAt o bs place = number o 2 (byte (part bs place 2))
+unfoldable pub shortAt : Endian → List ℕ → ℕ → ℕ
+shortAt o bs place = cond (inside bs place 2) (short o bs place) 0
 
 -- the number in the four bytes from a place on, or 0 if they do not all lie within the list
-abbrev pub longAt : Endian → List ℕ → ℕ → ℕ
-longAt o bs place = number o 4 (byte (part bs place 4))
+unfoldable pub longAt : Endian → List ℕ → ℕ → ℕ
+longAt o bs place = cond (inside bs place 4) (long o bs place) 0
