@@ -2,6 +2,7 @@
 ghost use mathlib.Core.Path.{_≡_};
 ghost use mathlib.Core.List.{[], _∷_};
 ghost use Prim.Native.Nat.{_+_, _<_, _≤_};
+ghost use lib.Dec.{ltb};
 ghost use lib.ListN.{length};
 ghost use Rattle.std.specs.Written.{decimal};
 ghost use Rattle.pnm.specs.Netpbm.{numeral};
@@ -15,12 +16,19 @@ pub fn put_byte(buffer: &mut [u8], at: usize, b: u8) -> usize
     at + 1
 }
 
+// Whether n has one decimal digit.
+fn is_digit(n: u32) -> bool
+    ensures { λ r. ⌜ r ≡ ltb n 10 ⌝ }
+{
+    n < 10
+}
+
 // The decimal digits of n.
 pub fn put_decimal(buffer: &mut [u8], at: usize, n: u32) -> usize
     requires { ⌜ at + length (decimal n) ≤ length (now buffer) ⌝ }
     ensures { λ r. ⌜ Put (now (buffer .entry)) at (decimal n) (now (buffer .exit)) r ⌝ }
 {
-    if n < 10 {
+    if is_digit(n) {
         return put_byte(buffer, at, b'0' + n as u8);
     }
     let last = put_decimal(buffer, at, n / 10);

@@ -2,7 +2,7 @@
 ghost use mathlib.Core.Path.{_≡_};
 ghost use mathlib.Core.Bool.{true};
 ghost use mathlib.Core.List.{List};
-ghost use Prim.Native.Nat.{ℕ, _+_, _*_, _<_, _≤_};
+ghost use Prim.Native.Nat.{ℕ, _+_, _*_, _/_, _%_, _^_, _<_, _≤_};
 ghost use lib.ListN.{length};
 ghost use Rattle.bytes.specs.Writes.{Put};
 ghost use Rattle.raster.specs.Picture.{allowed, levels, numberOf};
@@ -62,7 +62,27 @@ pub fn grey(kind: Kind, sample: u32) -> u8
     }
 }
 
-// A grey or an RGB pixel.
+// The red, the green and the blue of an RGB pixel.
+fn red(v: u32) -> u8
+    requires { ⌜ v < 2 ^ 24 ⌝ }
+    ensures { λ r. ⌜ r ≡ v / 65536 ⌝ }
+{
+    (v / 65536) as u8
+}
+
+fn green(v: u32) -> u8
+    ensures { λ r. ⌜ r ≡ v / 256 % 256 ⌝ }
+{
+    (v / 256 % 256) as u8
+}
+
+fn blue(v: u32) -> u8
+    ensures { λ r. ⌜ r ≡ v % 256 ⌝ }
+{
+    (v % 256) as u8
+}
+
+// Writes a grey or an RGB pixel, and answers the place after it.
 pub fn put_pixel(buffer: &mut [u8], at: usize, kind: Kind, v: u32) -> usize
     requires kinds { ⌜ allowed kind ≡ true ⌝ }
     requires value { ⌜ v < levels kind ⌝ }
@@ -70,9 +90,9 @@ pub fn put_pixel(buffer: &mut [u8], at: usize, kind: Kind, v: u32) -> usize
     ensures { λ r. ⌜ Put (now (buffer .entry)) at (pixelBytes kind v) (now (buffer .exit)) r ⌝ }
 {
     if is_colour(kind) {
-        let at = put_byte(buffer, at, (v / 65536) as u8);
-        let at = put_byte(buffer, at, (v / 256 % 256) as u8);
-        return put_byte(buffer, at, (v % 256) as u8);
+        let at = put_byte(buffer, at, red(v));
+        let at = put_byte(buffer, at, green(v));
+        return put_byte(buffer, at, blue(v));
     }
     put_byte(buffer, at, grey(kind, v))
 }

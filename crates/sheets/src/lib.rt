@@ -1,0 +1,2 @@
+// Grids over pixels in memory.
+pub mod sheet;
