@@ -102,6 +102,6 @@ placesOf d = take (d .count) (d .places)
 unfoldable pub walked : List ℕ → Result Directories Fault
 walked bs = then (headed bs) (λ o. then (chained o bs) (λ ds. Ok (listed o ds)))
 
--- the place of a page's directory
+-- the place of a page's directory, refused where there is none: not below the count, nor below 32
 abbrev pub placed : Directories → ℕ → Result ℕ Fault
-placed d page = refused (leb (length (placesOf d)) page) (bare Page) (Ok (getD (placesOf d) page 0))
+placed d page = refused (leb (d .count) page || leb 32 page) (bare Page) (Ok (getD (d .places) page 0))

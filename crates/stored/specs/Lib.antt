@@ -1,3 +1,4 @@
 pub mod Pixels
 pub mod Sane
 pub mod Soundness
+pub mod Reading

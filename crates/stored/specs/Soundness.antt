@@ -1,17 +1,15 @@
 -- The picture of a sane layout is sound, whatever the bytes. Assumes nothing.
-use Prim.Native.Nat.{ℕ, suc, _+_, _-_, _*_, _/_, _%_, _^_, _<_, _≤_}
-use mathlib.Core.Path.{_≡_, refl, sym, ap, subst, _∙_}
-use mathlib.Core.Bool.{Bool, true, false, cond, _&&_, _||_}
-use mathlib.Core.Logic.{_⊎_, inl, inr, ⊎-elim}
+use Prim.Native.Nat.{ℕ, suc, _+_, _-_, _*_, _/_, _%_, _^_, _<_}
+use mathlib.Core.Path.{_≡_, ap, subst, _∙_}
+use mathlib.Core.Bool.{true}
+use mathlib.Core.Logic.{inr}
 use mathlib.Core.List.{List}
 use native.Mathlib.Nat.{mod-lt, pow-zero, pow-suc, one-mul}
-use native.Mathlib.Omega.{arith}
-use lib.Dec.{eqb, leb, ltb}
 use lib.Pow.{pow-pos}
-use Rattle.std.proofs.shelf.Tests.{cond-both, and-parts, and-cases, or-cases, leb-true, eqb-true, cases-bool}
-use Rattle.bytes.specs.Digits.{packed, digit}
-use Rattle.bytes.specs.Rows.{Bits, byte, perByte, sampleIn}
-use Rattle.bytes.proofs.Digits.{packed-below, pow-pow}
+use Rattle.std.proofs.shelf.Tests.{cond-both, eqb-true}
+use Rattle.bytes.specs.Digits.{digit}
+use Rattle.bytes.specs.Rows.{byte, perByte, sampleIn}
+use Rattle.bytes.proofs.Digits.{packed-below}
 use Rattle.reads.specs.Reads.{inside}
 use Rattle.raster.specs.declared.grid.Kind.{Kind}
 use Rattle.raster.specs.declared.grid.Photometric.{Photometric}
@@ -20,48 +18,8 @@ use Rattle.raster.specs.Picture.{Sound, allowed, levels, kindOf}
 use Rattle.raster.specs.Soundness.{levels-some, framed-below, framed-outside, turn-sound}
 use Rattle.pages.specs.declared.layout.Layout.{Layout}
 use Rattle.pages.specs.Geometry.{samplesOf}
-use Rattle.pages.specs.Pages.{between, pageSide}
 use Rattle.stored.specs.Pixels.{pixelPlace, rowPlace, firstSample, pixelIn, storedPixel, stored, pictureOf}
-use Rattle.stored.specs.Sane.{sane}
-
--- a number within limits
-pub record Between (low high n : ℕ) : Type 0 where
-  pub least : low ≤ n
-  pub most : n ≤ high
-
--- what a sane layout is
-pub record Sane (l : Layout) : Type 0 where
-  pub kind : allowed (l .kind) ≡ true
-  pub width : Between 1 16384 (l .width)
-  pub height : Between 1 16384 (l .height)
-  pub wide : Between 1 16384 (l .cut .wide)
-  pub high : Between 1 16384 (l .cut .high)
-  pub orientation : Between 1 8 (l .orientation)
-
-between-true : (low high n : ℕ) → between low high n ≡ true → Between low high n
-between-true low high n t =
-    let h = and-parts (leb low n) (leb n high) t in
-    record { least = leb-true low n (h .0); most = leb-true n high (h .1) }
-
-pub sane-parts : (l : Layout) → sane l ≡ true → Sane l
-unfolding sane
-sane-parts l t =
-    let page : Bool = pageSide (l .width) && pageSide (l .height) in
-    let segment : Bool = pageSide (l .cut .wide) && pageSide (l .cut .high) in
-    let turn : Bool = between 1 8 (l .orientation) in
-    let a = and-parts (allowed (l .kind)) (page && (segment && turn)) t in
-    let b = and-parts page (segment && turn) (a .1) in
-    let c = and-parts segment turn (b .1) in
-    let d = and-parts (pageSide (l .width)) (pageSide (l .height)) (b .0) in
-    let e = and-parts (pageSide (l .cut .wide)) (pageSide (l .cut .high)) (c .0) in
-    record {
-      kind = a .0;
-      width = between-true 1 16384 (l .width) (d .0);
-      height = between-true 1 16384 (l .height) (d .1);
-      wide = between-true 1 16384 (l .cut .wide) (e .0);
-      high = between-true 1 16384 (l .cut .high) (e .1);
-      orientation = between-true 1 8 (l .orientation) (c .1);
-    }
+use Rattle.stored.specs.Sane.{sane, sane-parts}
 
 -- a sample is below the levels of its bits
 sample-below : (bits : ℕ) (row : ℕ → ℕ) (s : ℕ) → sampleIn bits row s < 2 ^ bits

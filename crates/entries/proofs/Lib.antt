@@ -1,0 +1,6 @@
+pub mod Chaining
+pub mod Looks
+pub mod Accepting
+pub mod Decoding
+pub mod Scanning
+pub mod Counting
