@@ -1,4 +1,3 @@
-pub mod Chaining
 pub mod Looks
 pub mod Accepting
 pub mod Decoding

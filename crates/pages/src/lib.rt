@@ -1,2 +1,3 @@
-// The checks of a page, and where an accepted page's pixels lie.
+// What an accepted page is known by, and how it is cut into strips or tiles.
+pub mod geometry;
 pub mod layout;

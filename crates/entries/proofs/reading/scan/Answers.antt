@@ -6,7 +6,7 @@ use lib.ListN.{length}
 use Rattle.std.specs.declared.result.Result.the-variants.{Err}
 use Rattle.std.proofs.shelf.Results.{err-from-errBy}
 use Rattle.entries.specs.Entries.{accepted, entriesFrom}
-use Rattle.entries.proofs.Chaining.{then-err, then-ok}
+use Rattle.links.proofs.Chaining.{then-err, then-ok}
 use Rattle.entries.proofs.Looks.{looked-none, looked-on}
 use Rattle.entries.proofs.Scanning.{collected, collect-start, collect-turn, collect-end}
 use Rattle.entries.proofs.reading.scan.Needs as need

@@ -1,0 +1,2 @@
+// The checks of a whole page, by its tags and their values.
+pub mod whole;
