@@ -53,10 +53,10 @@ module _ (q : Outline) (at : ℕ → ℕ → ℕ) (proper : Proper q) where
       let found = byte-chain (rowOf q at k) size rows i z some (λ y _. len y) (omega (arith, len (rows - 1))) l in
       found .2 ∙ row-byte q at k (i / size) (i % size) (mod-lt i z)
 
-  full-length : (k : ℕ) → suc k < segmentsIn q → length (segment q at k) ≡ segmentSize q 0
+  pub full-length : (k : ℕ) → suc k < segmentsIn q → length (segment q at k) ≡ segmentSize q 0
   full-length k m = length-segment q at k ∙ segment-same q proper k m
 
-  segments-length : length (chain (segmentsIn q) (segment q at)) ≡ (segmentsIn q - 1) * segmentSize q 0 + segmentSize q (segmentsIn q - 1)
+  pub segments-length : length (chain (segmentsIn q) (segment q at)) ≡ (segmentsIn q - 1) * segmentSize q 0 + segmentSize q (segmentsIn q - 1)
   segments-length =
       length-chain-last (segment q at) (segmentSize q 0) (segmentsIn q) (some-segments q proper) full-length
       ∙ ap (λ n. (segmentsIn q - 1) * segmentSize q 0 + n) (length-segment q at (segmentsIn q - 1))

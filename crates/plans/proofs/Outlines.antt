@@ -7,19 +7,20 @@ use native.Mathlib.Omega.{arith}
 use native.Mathlib.Nat.{suc-mul, zero-mul, div-one, div-eq-of-lt-le, le-div-iff-mul-le, div-lt-iff-lt-mul, lt-div-mul-add, mul-le-mul, mul-le-mul-left, mul-le-mul-right}
 use lib.Arith.{digits-lt}
 use lib.Dec.{eqb, ltb, leb}
-use Rattle.std.proofs.shelf.Tests.{cond-true, cond-false, cond-both, cases-bool, and-parts, leb-true, eqb-true, true≢false}
+use Rattle.std.proofs.shelf.Tests.{cond-true, cond-false, cond-both, cases-bool, and-parts, leb-true, le-leb, eqb-true, true≢false}
 use Rattle.std.proofs.shelf.Bits.{mul-lt}
 use Rattle.bytes.specs.Rows.{Bits, ceil, packedSize}
 use Rattle.bytes.proofs.Rows.{by-bits}
 use Rattle.raster.specs.declared.grid.Kind.{Kind}
-use Rattle.raster.specs.Picture.{allowed, numberOf}
+use Rattle.bytes.specs.declared.endian.Endian.{Endian}
+use Rattle.raster.specs.Picture.{Picture, Sound, empty, allowed, numberOf}
 use Rattle.pages.specs.declared.layout.Cut.{Cut}
 use Rattle.pages.specs.Geometry.{samplesOf, segments, firstRow, rowsOf, rowBytes}
 use Rattle.pages.specs.Pages.{between, tileSide}
 use Rattle.stored.specs.Sane.{allowed-bits}
 use Rattle.plans.specs.declared.outline.Outline.{Outline}
 use Rattle.plans.specs.Limits.{limited}
-use Rattle.plans.specs.Outlines.{Proper, segmentsIn, segmentSize, headSize, blockSize}
+use Rattle.plans.specs.Outlines.{cutBy, outlined, outlineOf, spans, Proper, segmentsIn, segmentSize, headSize, blockSize}
 
 pub ceil-covers : (n d : ℕ) → 0 < d → n ≤ ceil n d * d
 ceil-covers n d z = omega (arith, lt-div-mul-add {a = n + (d - 1)} z)
@@ -219,3 +220,34 @@ block-bounded q proper many =
       segment-bounded q proper (segmentsIn q - 1),
       mul-le-mul {n₁ = segmentsIn q - 1} {m₁ = segmentSize q 0} {n₂ = 1023} {m₂ = 805306368} (omega arith) (segment-bounded q proper 0),
     )
+
+-- The outline of a draft is proper.
+
+pub cut-limited : (t : Bool) (wide high width height : ℕ) → limited t wide high ≡ true → 1 ≤ height
+    → limited (cutBy t wide high width height .tiled) (cutBy t wide high width height .wide) (cutBy t wide high width height .high) ≡ true
+cut-limited false wide high width height l h = le-leb 1 (min high height) (omega (arith, leb-true 1 high l))
+cut-limited true wide high width height l h = l
+
+pub cut-spans : (t : Bool) (wide high width height : ℕ) → spans (cutBy t wide high width height) width height
+cut-spans false wide high width height e = (refl, omega arith)
+cut-spans true wide high width height e = absurd (true≢false e)
+
+pub outlined-proper : (o : Endian) (t : Bool) (wide high width height : ℕ) (kind : Kind) → limited t wide high ≡ true
+    → allowed kind ≡ true → 1 ≤ width → width ≤ 16384 → 1 ≤ height → height ≤ 16384 → Proper (outlined o t wide high width height kind)
+outlined-proper o t wide high width height kind l k w wm h hm = record {
+  kind = k;
+  some-wide = w;
+  some-high = h;
+  wide = wm;
+  high = hm;
+  limits = cut-limited t wide high width height l h;
+  spanned = cut-spans t wide high width height;
+}
+
+-- a sound picture with some column has some row
+pub some-rows : (p : Picture) → Sound p → 0 < p .width → 0 < p .height
+some-rows p sound w = ⊎-elim (λ e. absurd (omega (arith, ap (λ (r : Picture). r .width) e))) (λ h. h .1) (sound .sides)
+
+pub outline-proper : (o : Endian) (t : Bool) (wide high : ℕ) (p : Picture) → limited t wide high ≡ true → Sound p → 0 < p .width → Proper (outlineOf o t wide high p)
+outline-proper o t wide high p l sound w =
+    outlined-proper o t wide high (p .width) (p .height) (p .kind) l (sound .kinds) w (sound .wide) (some-rows p sound w) (sound .high)

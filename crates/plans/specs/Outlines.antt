@@ -81,19 +81,15 @@ blockSize q = headSize q + ((segmentsIn q - 1) * segmentSize q 0 + segmentSize q
 abbrev pub longsAt : ℕ → ℕ → ℕ → Numbers
 longsAt n entry out = record { form = Long; count = n; place = homeOf entry (4 * n) out }
 
--- The offsets and the byte counts of a draft at a place. Among 12 entries they are 5 and 8, and stand after the bits;
--- among 13 they are 11 and 12, and stand after the bits and the RATIONALs.
-abbrev pub offsetsIn : Outline → ℕ → Numbers
-offsetsIn q place =
-    cond (q .cut .tiled)
-    (longsAt (segmentsIn q) (place + 134) (place + (178 + bitsSize (q .kind))))
-    (longsAt (segmentsIn q) (place + 62) (place + (150 + bitsSize (q .kind))))
+-- The offsets and the byte counts of the strips or the tiles of a draft at a place. Among the 12 entries of strips they are
+-- 5 and 8, and stand after the bits; among the 13 of tiles they are 11 and 12, and stand after the bits and the RATIONALs.
+abbrev pub offsetsBy : Bool → Outline → ℕ → Numbers
+offsetsBy false q place = longsAt (segmentsIn q) (place + 62) (place + (150 + bitsSize (q .kind)))
+offsetsBy true q place = longsAt (segmentsIn q) (place + 134) (place + (178 + bitsSize (q .kind)))
 
-abbrev pub countsIn : Outline → ℕ → Numbers
-countsIn q place =
-    cond (q .cut .tiled)
-    (longsAt (segmentsIn q) (place + 146) (place + (178 + bitsSize (q .kind) + longsSize (segmentsIn q))))
-    (longsAt (segmentsIn q) (place + 98) (place + (150 + bitsSize (q .kind) + longsSize (segmentsIn q))))
+abbrev pub countsBy : Bool → Outline → ℕ → Numbers
+countsBy false q place = longsAt (segmentsIn q) (place + 98) (place + (150 + bitsSize (q .kind) + longsSize (segmentsIn q)))
+countsBy true q place = longsAt (segmentsIn q) (place + 146) (place + (178 + bitsSize (q .kind) + longsSize (segmentsIn q)))
 
 -- the page of a draft at a place, as it opens: the only one, with orientation 1
 unfoldable pub blockLayout : Outline → ℕ → Layout
@@ -105,6 +101,6 @@ blockLayout q place = record {
   kind = q .kind;
   orientation = 1;
   cut = q .cut;
-  offsets = offsetsIn q place;
-  counts = countsIn q place;
+  offsets = offsetsBy (q .cut .tiled) q place;
+  counts = countsBy (q .cut .tiled) q place;
 }

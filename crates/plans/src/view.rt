@@ -1,6 +1,6 @@
 // Views of a picture.
 ghost use mathlib.Core.Path.{_≡_};
-ghost use Rattle.plans.specs.Views.{viewChecked, viewWidth, viewHeight};
+ghost use Rattle.plans.specs.Views.{viewChecked, viewWidth, viewHeight, Views-show};
 use faults::fault::Check;
 use faults::fault::Fault;
 use raster::grid::Area;
@@ -50,3 +50,8 @@ impl View {
         }
     }
 }
+
+// The theorem that what is seen of a picture through a view of it has the view's sides and the picture's kind.
+pub fn views_show_pictures()
+    ensures { λ _. ⌜ Views-show ⌝ }
+{}
