@@ -1,10 +1,16 @@
 -- The bytes of an entry. Assumes nothing.
-use Prim.Native.Nat.{ℕ}
+use Prim.Native.Nat.{ℕ, _-_}
 use mathlib.Core.List.{List, [], _∷_, _++_}
 use Rattle.bytes.specs.declared.endian.Endian.{Endian}
+use Rattle.bytes.specs.declared.endian.Endian.the-variants.{Little, Big}
 use Rattle.bytes.specs.Numbers.{numberBytes}
 use Rattle.heads.specs.declared.contents.Content.{Content}
 use Rattle.heads.specs.declared.contents.Content.the-variants.{Short, Long, Shorts, Longs, Rational}
+
+-- how many of n bytes are lower than byte t
+abbrev pub lowerBytes : Endian → ℕ → ℕ → ℕ
+lowerBytes Little n t = t
+lowerBytes Big n t = n - 1 - t
 
 -- the number of the type
 abbrev pub kindOf : Content → ℕ

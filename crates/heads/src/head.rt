@@ -33,7 +33,7 @@ fn value_byte(outline: Outline, place: u32, i: u32) -> u8
         number_byte(endian, 4, offset_of(outline, place, k), (i - offsets) % 4)
     } else if i >= counts && i < counts + longs_size(outline) {
         let k = (i - counts) / 4;
-        number_byte(endian, 4, outline.segment_size(k) as u64, (i - counts) % 4)
+        number_byte(endian, 4, count_of(outline, k), (i - counts) % 4)
     } else {
         number_byte(endian, 4, 1, (i - ratios_at(outline)) % 4)
     }

@@ -85,6 +85,14 @@ pub fn offset_of(outline: Outline, place: u32, k: u32) -> u64
     start + k as u64 * outline.segment_size(0) as u64
 }
 
+// The byte count of segment k.
+pub fn count_of(outline: Outline, k: u32) -> u64
+    requires { ⌜ Proper outline ⌝ }
+    ensures { λ r. ⌜ r ≡ segmentSize outline k ⌝ }
+{
+    outline.segment_size(k) as u64
+}
+
 // One number a segment, in the entry if there is one segment, and else at a place.
 pub fn one_each(outline: Outline, first: u64, place: u64) -> Content
     requires { ⌜ segmentsIn outline ≤ 1024 ⌝ }
@@ -156,7 +164,7 @@ fn counts_content(outline: Outline, place: u32) -> Content
 {
     one_each(
         outline,
-        outline.segment_size(0) as u64,
+        count_of(outline, 0),
         place as u64 + counts_at(outline) as u64,
     )
 }

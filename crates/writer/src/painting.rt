@@ -45,9 +45,19 @@ fn grey_byte<G: Grid>(grid: &mut G, view: View, outline: Outline, spot: Spot) ->
     let levels = 1u32 << bits;
     let mut sum = 0u32;
     for t in 0..per {
-        sum = sum * levels + grey_sample(grid, view, outline, spot, spot.byte * per + t);
+        sum = sum * levels + grey_sample(grid, view, outline, spot, sample_of(spot.byte, per, t));
     }
     sum as u8
+}
+
+// Which sample of its row is the t-th from the highest bits of a byte that has `per` samples.
+fn sample_of(byte: u32, per: u32, t: u32) -> u32
+    requires byte { ⌜ byte < 49152 ⌝ }
+    requires per { ⌜ per ≤ 8 ⌝ }
+    requires one { ⌜ t < per ⌝ }
+    ensures { λ r. ⌜ r ≡ byte * per + t ⌝ }
+{
+    byte * per + t
 }
 
 // The RGB pixel of a spot: `last`, the pixel of the byte before, if the spot is another byte of it, and else asked.

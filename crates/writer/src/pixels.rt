@@ -2,7 +2,7 @@
 ghost use mathlib.Core.Path.{_≡_};
 ghost use mathlib.Core.Bool.{true};
 ghost use Prim.Native.Nat.{_+_, _/_, _%_, _<_, _≤_};
-ghost use Rattle.raster.specs.Picture.{framed};
+ghost use Rattle.raster.specs.Picture.{framed, within};
 ghost use Rattle.raster.specs.Views.{columnBelow, rowBelow};
 ghost use Rattle.plans.specs.Views.{viewed, shows, viewWidth, viewHeight};
 use plans::view::View;
@@ -32,8 +32,7 @@ pub fn seen_pixel<G: Grid>(grid: &mut G, view: View, x: u32, y: u32) -> u32
     ensures kept { λ _. ⌜ picture (now (grid .exit)) ≡ picture (now (grid .entry)) ⌝ }
     ensures keeps { λ _. ⌜ keeps .across (now (grid .entry)) (now (grid .exit)) ⌝ }
 {
-    let size = view.size();
-    if x >= size.width || y >= size.height {
+    if !is_inside(view.size(), x, y) {
         return 0;
     }
     let (column, row) = below(view, x, y);
@@ -41,6 +40,13 @@ pub fn seen_pixel<G: Grid>(grid: &mut G, view: View, x: u32, y: u32) -> u32
         Ok(v) => v,
         Err(_) => unreachable(),
     }
+}
+
+// Whether column x, row y lies inside the sides.
+fn is_inside(size: Size, x: u32, y: u32) -> bool
+    ensures { λ r. ⌜ r ≡ within (size .width) (size .height) x y ⌝ }
+{
+    x < size.width && y < size.height
 }
 
 // Red, green or blue of a pixel, counted from 0.

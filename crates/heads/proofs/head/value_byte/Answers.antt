@@ -42,7 +42,7 @@ pub returns-then-i-counts-3 : need.returns-then-i-counts-3
 returns-then-i-counts-3 c =
     let q = c .args .outline in
     c .number-byte-then-i-counts-3 .ensures
-    ∙ ap (λ v. byteOf (q .endian) 4 v ((c .args .i - c .counts-at-counts .result) % 4)) (c .segment-size .ensures)
+    ∙ ap (λ v. byteOf (q .endian) 4 v ((c .args .i - c .counts-at-counts .result) % 4)) (c .count-of .ensures)
     ∙ ap (λ a. byteOf (q .endian) 4 (segmentSize q ((c .args .i - a) / 4)) ((c .args .i - a) % 4)) (c .counts-at-counts .ensures .value)
     ∙ count-byte q (c .args .place) (c .args .i) (q .cut .tiled) refl
     (omega (arith, c .if-i-counts-2 .taken, c .counts-at-counts .ensures .value))

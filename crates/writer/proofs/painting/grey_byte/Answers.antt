@@ -44,7 +44,9 @@ unfolding sample
 add-sum g c =
     let q = c .args .outline in
     let p = g .G·Grid .picture (c .args .grid .now) in
-    let v = c .grey-sample .ensures .value ∙ ap (λ (r : Picture). paddedAt (c .args .outline) (viewed r (c .args .view) .at) (c .args .spot) (c .args .spot .byte * perByte (c .args .outline .kind .bits) + c .loop-t .t)) (c .loop-t .inv .0) in
+    let v = c .grey-sample .ensures .value
+    ∙ ap (paddedAt (c .args .outline) (viewed (g .G·Grid .picture (c .loop-t .grid)) (c .args .view) .at) (c .args .spot)) (c .sample-of .ensures)
+    ∙ ap (λ (r : Picture). paddedAt (c .args .outline) (viewed r (c .args .view) .at) (c .args .spot) (c .args .spot .byte * perByte (c .args .outline .kind .bits) + c .loop-t .t)) (c .loop-t .inv .0) in
     omega (
       arith,
       v,
@@ -58,7 +60,9 @@ loop-t-again g c =
     let q = c .args .outline in
     let p = g .G·Grid .picture (c .args .grid .now) in
     let f : ℕ → ℕ = λ t. paddedAt (c .args .outline) (viewed (g .G·Grid .picture (c .args .grid .now)) (c .args .view) .at) (c .args .spot) (c .args .spot .byte * perByte (c .args .outline .kind .bits) + t) in
-    let v = c .grey-sample .ensures .value ∙ ap (λ (r : Picture). paddedAt (c .args .outline) (viewed r (c .args .view) .at) (c .args .spot) (c .args .spot .byte * perByte (c .args .outline .kind .bits) + c .loop-t .t)) (c .loop-t .inv .0) in (
+    let v = c .grey-sample .ensures .value
+    ∙ ap (paddedAt (c .args .outline) (viewed (g .G·Grid .picture (c .loop-t .grid)) (c .args .view) .at) (c .args .spot)) (c .sample-of .ensures)
+    ∙ ap (λ (r : Picture). paddedAt (c .args .outline) (viewed r (c .args .view) .at) (c .args .spot) (c .args .spot .byte * perByte (c .args .outline .kind .bits) + c .loop-t .t)) (c .loop-t .inv .0) in (
       c .grey-sample .ensures .kept ∙ c .loop-t .inv .0,
       g .G·Grid .keeps .both (c .loop-t .inv .1) (c .grey-sample .ensures .keeps),
       (λ i. c .loop-t .inv .2 i * levels-shifted (q .kind .bits) (allowed-bits (q .kind) (c .pre .outline .proper .kind)) i + v i)
