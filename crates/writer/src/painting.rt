@@ -57,7 +57,7 @@ fn sample_of(byte: u32, per: u32, t: u32) -> u32
     requires one { ⌜ t < per ⌝ }
     ensures { λ r. ⌜ r ≡ byte * per + t ⌝ }
 {
-    byte * per + t
+    t + byte * per
 }
 
 // The RGB pixel of a spot: `last`, the pixel of the byte before, if the spot is another byte of it, and else asked.
