@@ -9,12 +9,12 @@ use crate::info::print_page;
 use faults::fault::Fault;
 use holder::holder::Holder;
 use holder::shown::HolderGrid;
-use holder::token::Begun;
-use holder::token::Token;
 use plans::plan::Plan;
 use plans::view::View;
 use raster::grid::Area;
 use raster::grid::Grid;
+use relaying::lay_out;
+use script::hash::fnv;
 use store::slices::Chip;
 use store::slices::Memory;
 use store::slices::MemoryCard;
@@ -52,50 +52,8 @@ fn view_of<C: Card>(holder: &Holder<C>, wish: Wish) -> View {
     }
 }
 
-// Carries a draft, sector by sector.
-fn carry_all<C: Card>(
-    rt: &LibcRuntime,
-    holder: &mut Holder<C>,
-    begun: Begun,
-    sectors: u64,
-) -> Result<Begun, Failed> {
-    let mut token = begun;
-    for _ in 0..sectors {
-        token = match holder.carry(token) {
-            Ok((next, _)) => next,
-            Err((back, fault)) => {
-                let _ = holder.scrap(Token::Begun(back));
-                return Err(refused(rt, fault));
-            }
-        };
-    }
-    Ok(token)
-}
-
-// Rests, switches and keeps a draft that is carried.
-fn finish<C: Card>(rt: &LibcRuntime, holder: &mut Holder<C>, carried: Begun) -> Result<(), Failed> {
-    let rested = match holder.rest(carried) {
-        Ok(rested) => rested,
-        Err((back, fault)) => {
-            let _ = holder.scrap(Token::Begun(back));
-            return Err(refused(rt, fault));
-        }
-    };
-    let switched = match holder.switch(rested) {
-        Ok(switched) => switched,
-        Err((back, fault)) => {
-            let _ = holder.scrap(Token::Rested(back));
-            return Err(refused(rt, fault));
-        }
-    };
-    match holder.keep(switched) {
-        Ok(()) => Ok(()),
-        Err(fault) => Err(refused(rt, fault)),
-    }
-}
-
 // Lays out page 0 of a card anew, and answers how many sectors were written.
-fn lay_out<C: Card>(
+fn lay_out_first<C: Card>(
     rt: &LibcRuntime,
     holder: &mut Holder<C>,
     plan: Plan,
@@ -105,12 +63,8 @@ fn lay_out<C: Card>(
         return Err(refused(rt, fault));
     }
     let view = view_of(holder, wish);
-    match holder.begin(view, plan) {
-        Ok((begun, sectors)) => {
-            let carried = carry_all(rt, holder, begun, sectors)?;
-            finish(rt, holder, carried)?;
-            Ok(sectors)
-        }
+    match lay_out(holder, view, plan) {
+        Ok(sectors) => Ok(sectors),
         Err(fault) => Err(refused(rt, fault)),
     }
 }
@@ -163,9 +117,11 @@ pub fn relay(
     print_file(rt, bytes.as_slice())?;
     extend(&mut bytes, room)?;
     let mut holder = Holder::new(Memory::new(bytes.as_mut_slice()));
-    let sectors = lay_out(rt, &mut holder, plan, wish)?;
+    let sectors = lay_out_first(rt, &mut holder, plan, wish)?;
     drop(holder);
     save(rt, out, bytes.as_slice())?;
-    println!(rt, "to {out}: {sectors} sectors and the header were written")?;
+    let length = bytes.len();
+    let hash = fnv(bytes.as_slice());
+    println!(rt, "to {out}: {sectors} sectors and the header written, {length} bytes, fnv {hash:016x}")?;
     print_file(rt, bytes.as_slice())
 }
