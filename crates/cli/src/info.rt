@@ -1,8 +1,8 @@
 // What a file holds.
-use bytes::endian::Endian;
 use crate::failed::Failed;
 use crate::failed::FailedFromIo;
 use crate::meaning::meaning;
+use bytes::endian::Endian;
 use faults::fault::Fault;
 use faults::shown::FaultDisplay;
 use links::directories::Directories;
@@ -59,7 +59,10 @@ fn print_layout(rt: &LibcRuntime, page: u32, layout: Layout) -> Result<(), Faile
     let kind = kind_name(layout.kind);
     let orientation = layout.orientation;
     println!(rt, "page {page}: directory at byte {place}")?;
-    println!(rt, "  {width} by {height} pixels, {kind}, {bits}-bit samples, orientation {orientation}")?;
+    println!(
+        rt,
+        "  {width} by {height} pixels, {kind}, {bits}-bit samples, orientation {orientation}"
+    )?;
     print_cut(rt, layout.cut, layout.offsets.count)
 }
 

@@ -70,12 +70,7 @@ fn lay_out_first<C: Card>(
 }
 
 // The bytes that the draft takes.
-fn draft_room(
-    rt: &LibcRuntime,
-    bytes: &mut [u8],
-    plan: Plan,
-    wish: Wish,
-) -> Result<u64, Failed> {
+fn draft_room(rt: &LibcRuntime, bytes: &mut [u8], plan: Plan, wish: Wish) -> Result<u64, Failed> {
     let mut holder = Holder::new(Memory::new(bytes));
     if let Err(fault) = holder.open(0) {
         return Err(refused(rt, fault));
@@ -122,6 +117,9 @@ pub fn relay(
     save(rt, out, bytes.as_slice())?;
     let length = bytes.len();
     let hash = fnv(bytes.as_slice());
-    println!(rt, "to {out}: {sectors} sectors and the header written, {length} bytes, fnv {hash:016x}")?;
+    println!(
+        rt,
+        "to {out}: {sectors} sectors and the header written, {length} bytes, fnv {hash:016x}"
+    )?;
     print_file(rt, bytes.as_slice())
 }

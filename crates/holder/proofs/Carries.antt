@@ -83,13 +83,14 @@ fitting-sized bs l d f = sized-ok l (d .view) (d .plan) (f .shows) (f .few)
 
 -- a write after reads is a write
 pub wrote-after : (r : Result (Unit {0}) Fault) (l m n : Mem) (place : ℕ) (given : List ℕ) → Quiet l m → WroteBy r m place given n → WroteBy r l place given n
-wrote-after (Ok _) l m n place given q w =
-    (subst (λ b. place + length given ≤ length b) (q .seen) (w .0),
-    record {
-      seen = w .1 .seen ∙ ap (λ b. patched b place given) (q .seen);
-      may = wider (n .seen) place (length given) (l .may) (m .may) (n .may) (q .may) (w .1 .may);
-      trail = wider (n .seen) place (length given) (l .trail) (m .trail) (n .trail) (q .trail) (w .1 .trail);
-    })
+wrote-after (Ok _) l m n place given q w = (
+  subst (λ b. place + length given ≤ length b) (q .seen) (w .0),
+  record {
+    seen = w .1 .seen ∙ ap (λ b. patched b place given) (q .seen);
+    may = wider (n .seen) place (length given) (l .may) (m .may) (n .may) (q .may) (w .1 .may);
+    trail = wider (n .seen) place (length given) (l .trail) (m .trail) (n .trail) (q .trail) (w .1 .trail);
+  },
+)
   where
     wider : (bs : List ℕ) (place count : ℕ) (a b c : Lists) → NoGain a b → Gain bs place count b c → Gain bs place count a c
     wider bs place count a b c n g = record {
