@@ -10,7 +10,9 @@ use crate::replay::print_script;
 use crate::window::write_window;
 use crate::wishes::number;
 use crate::wishes::plan_of;
+use crate::wishes::plan_words;
 use crate::wishes::wish_of;
+use plans::plan::Plan;
 use raster::grid::Area;
 use std::env;
 
@@ -59,23 +61,29 @@ fn window(rt: &LibcRuntime, words: &[String]) -> Result<(), Failed> {
     write_window(rt, words[1].as_str(), page, area, words[7].as_str())
 }
 
+// Lays a page out anew by a plan, as the words after it wish.
+fn lay_out_by(
+    rt: &LibcRuntime,
+    name: &str,
+    out: &str,
+    plan: Plan,
+    words: &[String],
+) -> Result<(), Failed> {
+    let wish = wish_of(rt, words)?;
+    relay(rt, name, out, plan, wish)
+}
+
 fn lay_out(rt: &LibcRuntime, words: &[String]) -> Result<(), Failed> {
     if words.len() < 6 {
-        return wrong_call(rt);
+        return Err(Failed::Call);
     }
-    let (plan, count) = match plan_of(rt, &words[3..]) {
-        Ok(found) => found,
-        Err(Failed::Call) => return wrong_call(rt),
-        Err(failed) => return Err(failed),
-    };
-    if words.len() < 3 + count {
-        return wrong_call(rt);
+    let rest = &words[3..];
+    let count = plan_words(rest);
+    if rest.len() < count {
+        return Err(Failed::Call);
     }
-    match wish_of(rt, &words[3 + count..]) {
-        Ok(wish) => relay(rt, words[1].as_str(), words[2].as_str(), plan, wish),
-        Err(Failed::Call) => wrong_call(rt),
-        Err(failed) => Err(failed),
-    }
+    let plan = plan_of(rt, rest)?;
+    lay_out_by(rt, words[1].as_str(), words[2].as_str(), plan, &rest[count..])
 }
 
 // Runs the command that some words name.
@@ -92,7 +100,10 @@ fn start(rt: &LibcRuntime, words: &[String]) -> Result<(), Failed> {
         return window(rt, words);
     }
     if name == "relay" {
-        return lay_out(rt, words);
+        return match lay_out(rt, words) {
+            Err(Failed::Call) => wrong_call(rt),
+            done => done,
+        };
     }
     if words.len() == 2 && name == "info" {
         return info(rt, words[1].as_str());

@@ -31,8 +31,17 @@ fn made(rt: &LibcRuntime, plan: Result<Plan, Fault>) -> Result<Plan, Failed> {
     }
 }
 
-// The plan that some words begin with, and how many words it takes.
-pub fn plan_of(rt: &LibcRuntime, words: &[String]) -> Result<(Plan, usize), Failed> {
+// How many words a plan takes: an order, `strips` and the rows, or an order, `tiles` and two sides.
+pub fn plan_words(words: &[String]) -> usize {
+    if words.len() > 1 && words[1].as_str() == "tiles" {
+        4
+    } else {
+        3
+    }
+}
+
+// The plan that some words begin with.
+pub fn plan_of(rt: &LibcRuntime, words: &[String]) -> Result<Plan, Failed> {
     if words.len() < 3 {
         return Err(Failed::Call);
     }
@@ -41,11 +50,11 @@ pub fn plan_of(rt: &LibcRuntime, words: &[String]) -> Result<(Plan, usize), Fail
     };
     let first = number(rt, words[2].as_str())?;
     if words[1].as_str() == "strips" {
-        return Ok((made(rt, Plan::strips(endian, first))?, 3));
+        return made(rt, Plan::strips(endian, first));
     }
     if words[1].as_str() == "tiles" && words.len() >= 4 {
         let second = number(rt, words[3].as_str())?;
-        return Ok((made(rt, Plan::tiles(endian, first, second))?, 4));
+        return made(rt, Plan::tiles(endian, first, second));
     }
     Err(Failed::Call)
 }
