@@ -1,5 +1,5 @@
 -- Every byte of a block is below 256.
-use Prim.Native.Nat.{ℕ, zero, suc, _+_, _-_, _*_, _/_, _%_, _^_, _≤_, _<_}
+use Prim.Native.Nat.{ℕ, zero, suc, _+_, _-_, _*_, _/_, _%_, _^_, _<_}
 use mathlib.Core.Bool.{Bool, true, false, cond}
 use mathlib.Core.List.{List, map, [], _∷_, _++_}
 use native.Mathlib.Omega.{arith}
@@ -16,7 +16,6 @@ use Rattle.bytes.specs.Rows.{byte, Bits, chain, perByte, padded, packedRow}
 use Rattle.bytes.proofs.Digits.{packed-below}
 use Rattle.bytes.proofs.Rows.{by-bits, padded-below}
 use Rattle.links.specs.Links.{magic}
-use Rattle.raster.specs.Picture.{allowed}
 use Rattle.pages.specs.Geometry.{samplesOf, rowsOf, rowBytes}
 use Rattle.stored.specs.Sane.{allowed-bits}
 use Rattle.plans.specs.declared.outline.Outline.{Outline}

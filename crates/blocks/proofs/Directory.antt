@@ -1,17 +1,16 @@
 -- A directory read back from its bytes.
-use Prim.Native.Nat.{ℕ, zero, suc, _+_, _-_, _*_, _/_, _%_, _^_, _≤_, _<_, min}
-use mathlib.Core.Path.{_≡_, refl, sym, ap, ap₂, subst, _∙_}
-use mathlib.Core.Logic.{_⊎_, inl, inr, ⊎-elim}
+use Prim.Native.Nat.{ℕ, _+_, _-_, _*_, _%_, _^_, _≤_, _<_}
+use mathlib.Core.Path.{_≡_, refl, ap, ap₂, _∙_}
 use mathlib.Core.Bool.{Bool, true, false, cond, not, _&&_, _||_}
-use mathlib.Core.List.{List, map, [], _∷_, _++_}
+use mathlib.Core.List.{List, [], _∷_, _++_}
 use native.Mathlib.Omega.{arith}
-use lib.Dec.{eqb, ltb, leb}
+use lib.Dec.{eqb, ltb}
 use lib.ListN.{length, getD, replicate}
 use Rattle.std.specs.Joined.{joined}
 use Rattle.std.specs.declared.option.Option.{Option}
 use Rattle.std.specs.declared.option.Option.the-variants.{Some, None}
 use Rattle.std.specs.declared.result.Result.{Result}
-use Rattle.std.specs.declared.result.Result.the-variants.{Ok, Err}
+use Rattle.std.specs.declared.result.Result.the-variants.{Ok}
 use Rattle.std.proofs.shelf.Lists.{length-append, length-replicate}
 use Rattle.std.proofs.shelf.Tests.{true≢false, leb-true, cond-both, le-ltb}
 use Rattle.std.proofs.shelf.Ways.{tells}
@@ -20,14 +19,14 @@ use Rattle.faults.specs.declared.fault.Check.the-variants.{Order, Field as Fiel
 use Rattle.faults.specs.Faults.{fault, refused, then}
 use Rattle.bytes.specs.declared.endian.Endian.{Endian}
 use Rattle.bytes.specs.Numbers.{short, long, numberBytes}
-use Rattle.bytes.specs.Rows.{byte, Holds}
-use Rattle.bytes.proofs.Rows.{holds-at, holds-front, holds-back}
+use Rattle.bytes.specs.Rows.{Holds}
+use Rattle.bytes.proofs.Rows.{holds-front, holds-back}
 use Rattle.entries.specs.declared.entry.Entry.{Entry}
 use Rattle.entries.specs.declared.entry.Shape.{Shape}
-use Rattle.entries.specs.Entries.{sizeOf, homeOf, entryAt, entriesFrom, shapeOf, fits, size, astray, shaped, accepted, scanned}
+use Rattle.entries.specs.Entries.{sizeOf, homeOf, entryAt, entriesFrom, shapeOf, fits, astray, shaped, accepted, scanned}
 use Rattle.plans.specs.Outlines.{directorySize}
 use Rattle.plans.specs.Directories.{Field, numberSize, valueBytes, inline, lastBytes, entryBytes, outerBytes, outerSize, entriesBytes, directoryBytes}
-use Rattle.blocks.proofs.Numbers.{length-numberBytes, number-held, length-numbers}
+use Rattle.blocks.proofs.Numbers.{number-held, length-numbers}
 
 -- a field's numbers take the bytes of its type and count
 abbrev pub Sized : Field → Type 0

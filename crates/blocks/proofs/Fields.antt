@@ -1,34 +1,29 @@
 -- The fields of a block can be written and read back, and their size.
-use Prim.Native.Nat.{ℕ, zero, suc, _+_, _-_, _*_, _/_, _%_, _^_, _≤_, _<_, min}
-use mathlib.Core.Path.{_≡_, refl, sym, ap, ap₂, subst, _∙_}
-use mathlib.Core.Bool.{Bool, true, false, cond, not, _&&_, _||_}
-use mathlib.Core.List.{List, map, [], _∷_, _++_}
+use Prim.Native.Nat.{ℕ, zero, suc, _+_, _*_, _%_, _≤_, _<_}
+use mathlib.Core.Path.{_≡_, refl, ap, _∙_}
+use mathlib.Core.Bool.{Bool, true, false, cond}
+use mathlib.Core.List.{List, [], _∷_}
 use native.Mathlib.Omega.{arith}
-use lib.Dec.{eqb, ltb, leb}
+use lib.Dec.{eqb, leb}
 use lib.ListN.{length, getD}
-use Rattle.std.specs.Iters.{counting}
-use Rattle.std.specs.declared.option.Option.{Option}
-use Rattle.std.specs.declared.option.Option.the-variants.{Some, None}
 use Rattle.std.proofs.shelf.Counted.{length-map-counting, getD-map-counting}
 use Rattle.std.proofs.shelf.Tests.{lt-ltb, cond-both}
 use Rattle.std.proofs.shelf.Ways.{tells}
 use Rattle.bytes.specs.Rows.{tabulate, Bits}
 use Rattle.bytes.proofs.Rows.{by-bits}
-use Rattle.raster.specs.declared.grid.Kind.{Kind}
 use Rattle.raster.specs.declared.grid.Photometric.{Photometric}
 use Rattle.raster.specs.declared.grid.Photometric.the-variants.{WhiteIsZero, BlackIsZero, Rgb}
-use Rattle.raster.specs.Picture.{allowed, numberOf}
+use Rattle.raster.specs.Picture.{numberOf}
 use Rattle.pages.specs.Geometry.{samplesOf}
-use Rattle.entries.specs.declared.entry.Shape.{Shape}
-use Rattle.entries.specs.declared.entry.Shape.the-variants.{One, OneShort, Bits as BitsShape, Many}
+use Rattle.entries.specs.declared.entry.Shape.the-variants.{Bits as BitsShape}
 use Rattle.entries.specs.Entries.{shapeOf, fits}
 use Rattle.stored.specs.Sane.{allowed-bits}
 use Rattle.plans.specs.declared.outline.Outline.{Outline}
-use Rattle.plans.specs.Outlines.{Proper, segmentsIn, segmentSize, entriesIn, directorySize, bitsSize, longsSize, headSize}
-use Rattle.plans.specs.Directories.{Field, shorts, longs, rational, outerSize, directoryBytes}
-use Rattle.plans.specs.Blocks.{offsetsFrom, byteCounts, sampleBits, fieldsBy, fieldsIn}
+use Rattle.plans.specs.Outlines.{Proper, segmentsIn, segmentSize, bitsSize, longsSize, headSize}
+use Rattle.plans.specs.Directories.{shorts, longs, rational, outerSize, directoryBytes}
+use Rattle.plans.specs.Blocks.{sampleBits, fieldsBy, fieldsIn}
 use Rattle.blocks.proofs.Directory.{Good, Fit, GoodAll, SizedAll, Ascending, outers, length-directory}
-use Rattle.plans.proofs.Outlines.{Segment-sides, segment-sides, samples-few}
+use Rattle.plans.proofs.Outlines.{segment-sides, samples-few}
 
 good-shorts : (tag : ℕ) (ns : List ℕ) → tag < 65536 → length ns < 65536 → ((j : ℕ) → j < length ns → getD ns j 0 < 65536)
     → Fit (shapeOf tag) 3 (length ns) → Good (shorts tag ns)
@@ -146,9 +141,6 @@ good-fields t q start proper some few offsets counts = by t
 
     high : q .cut .high < 4294967296
     high = omega (arith, segment-sides q proper .high)
-
-    offset : ℕ → ℕ
-    offset k = start + k * segmentSize q 0
 
     by : (t : Bool) → GoodAll (fieldsBy t q start)
     by false = (

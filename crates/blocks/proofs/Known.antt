@@ -8,13 +8,13 @@ use Rattle.plans.specs.Outlines.{blockSize}
 use Rattle.plans.specs.Directories.{entriesBytes, directoryBytes}
 use Rattle.plans.specs.Blocks.{segment, block}
 use Rattle.plans.proofs.Outlines.{block-bounded}
-use Rattle.blocks.specs.Known.{Known-sheets}
+use Rattle.blocks.specs.Known.{greyBlock, Known-sheets}
 use Rattle.blocks.specs.Laws.{Blocks-known}
 use Rattle.blocks.proofs.Bytes.{bytes-block}
 use Rattle.blocks.proofs.Places.{length-block, block-byte, sector-bytes}
 
 pub known-sheets : Known-sheets
-unfolding block blockSize directoryBytes entriesBytes segment segments packedRow packed digit byteOf
+unfolding greyBlock block blockSize directoryBytes entriesBytes segment segments packedRow packed digit byteOf
 known-sheets = record {
   ten-bilevel = refl;
   row-padded = refl;
@@ -23,11 +23,9 @@ known-sheets = record {
   short-little = refl;
   header-little = refl;
   header-big = refl;
+  grey-block = refl;
   grey-size = refl;
   grey-start = refl;
-  grey-first = refl;
-  grey-offset = refl;
-  grey-strip = refl;
   rows-cut = refl;
   dot-strip = refl;
   tile-right = refl;

@@ -1,11 +1,9 @@
 -- Numbers read back from the bytes that hold them.
-use Prim.Native.Nat.{ℕ, zero, suc, _+_, _-_, _*_, _^_, _≤_, _<_}
-use mathlib.Core.Path.{_≡_, refl, sym, ap, ap₂, _∙_}
-use mathlib.Core.Bool.{Bool, true, false, cond}
-use mathlib.Core.List.{List, [], _∷_, _++_}
+use Prim.Native.Nat.{ℕ, zero, suc, _+_, _*_, _^_, _<_}
+use mathlib.Core.Path.{_≡_, _∙_}
+use mathlib.Core.List.{List, [], _∷_}
 use native.Mathlib.Omega.{arith}
 use native.Mathlib.Nat.{suc-mul}
-use lib.Dec.{leb}
 use lib.ListN.{length, getD}
 use Rattle.std.specs.Joined.{joined}
 use Rattle.std.proofs.shelf.Lists.{length-append}
@@ -19,7 +17,6 @@ use Rattle.bytes.proofs.Digits.{number-byteOf, number-same}
 use Rattle.bytes.proofs.Rows.{holds-at, holds-front, holds-back}
 use Rattle.reads.specs.Reads.{inside, shortAt, longAt}
 use Rattle.entries.specs.declared.fields.Form.the-variants.{Short, Long}
-use Rattle.entries.specs.declared.fields.Numbers.{Numbers}
 use Rattle.entries.specs.Fields.{numberAt}
 
 pub length-numberBytes : (o : Endian) (w v : ℕ) → length (numberBytes o w v) ≡ w

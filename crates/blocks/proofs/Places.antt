@@ -1,13 +1,11 @@
 -- The block byte by byte and sector by sector.
-use Prim.Native.Nat.{ℕ, zero, suc, _+_, _-_, _*_, _/_, _%_, _^_, _≤_, _<_, min}
-use mathlib.Core.Path.{_≡_, refl, sym, ap, ap₂, subst, _∙_}
-use mathlib.Core.Bool.{Bool, true, false, cond}
-use mathlib.Core.List.{List, map, [], _∷_, _++_}
+use Prim.Native.Nat.{ℕ, zero, suc, _+_, _-_, _*_, _/_, _%_, _≤_, _<_, min}
+use mathlib.Core.Path.{_≡_, ap, subst, _∙_}
+use mathlib.Core.List.{List, [], _∷_, _++_}
 use native.Mathlib.Omega.{arith}
-use native.Mathlib.Nat.{mod-lt, mul-le-mul, mul-le-mul-right}
-use lib.Dec.{ltb, leb}
-use lib.ListN.{length, getD, take, drop}
-use Rattle.std.specs.Iters.{counting}
+use native.Mathlib.Nat.{mod-lt}
+use lib.Dec.{ltb}
+use lib.ListN.{length, getD, take}
 use Rattle.std.specs.Joined.{joined}
 use Rattle.std.proofs.shelf.Lists.{length-append, getD-append-left, getD-append-right}
 use Rattle.std.proofs.shelf.Counted.{getD-map-counting, fill-by-all}
@@ -16,7 +14,7 @@ use Rattle.bytes.specs.declared.endian.Endian.{Endian}
 use Rattle.bytes.specs.Rows.{byte, Holds, chain, packedRow, tabulate}
 use Rattle.bytes.specs.Sectors.{sector}
 use Rattle.bytes.proofs.Patches.{length-sector, getD-sector}
-use Rattle.bytes.proofs.Rows.{holds-at, holds-front, holds-back, holds-chain, length-chain, length-packedRow}
+use Rattle.bytes.proofs.Rows.{holds-at, holds-front, holds-back, length-chain, length-packedRow}
 use Rattle.pages.specs.Geometry.{samplesOf, rowsOf, rowBytes}
 use Rattle.plans.specs.declared.outline.Outline.{Outline}
 use Rattle.plans.specs.Outlines.{Proper, segmentsIn, segmentSize, headSize, blockSize}
@@ -25,7 +23,7 @@ use Rattle.plans.specs.Blocks.{sampleOf, rowOf, segment, fieldsIn, block, rowBy
 use Rattle.blocks.proofs.Chains.{length-chain-last, byte-chain}
 use Rattle.blocks.proofs.Directory.{SizedAll, length-entry, length-outer, outers}
 use Rattle.blocks.proofs.Fields.{head-length}
-use Rattle.plans.proofs.Outlines.{segment-sides, some-segments, row-positive, segment-positive, segment-most, segment-same}
+use Rattle.plans.proofs.Outlines.{some-segments, row-positive, segment-positive, segment-most, segment-same}
 
 pub length-segment : (q : Outline) (at : ℕ → ℕ → ℕ) (k : ℕ) → length (segment q at k) ≡ segmentSize q k
 unfolding segment

@@ -9,7 +9,6 @@ use Rattle.bytes.specs.declared.endian.Endian.the-variants.{Little, Big}
 use Rattle.bytes.specs.Rows.{ceil, packedSize, packedRow}
 use Rattle.raster.specs.declared.grid.Photometric.the-variants.{BlackIsZero, Rgb}
 use Rattle.raster.specs.Picture.{Picture, framed, kindOf}
-use Rattle.plans.specs.declared.outline.Outline.{Outline}
 use Rattle.plans.specs.Outlines.{cutBy, outlineOf, headSize, blockSize}
 use Rattle.plans.specs.Directories.{shorts, lastBytes}
 use Rattle.plans.specs.Blocks.{segment, blockOf, header}
@@ -30,6 +29,29 @@ quarters = record { width = 17; height = 17; kind = kindOf BlackIsZero 8; at = f
 abbrev pub black : Picture
 black = record { width = 20; height = 20; kind = kindOf Rgb 8; at = λ x y. 0 }
 
+-- the block of the first in one strip, II, at place 512: the number of entries, the entries a line each, the link,
+-- the two resolutions and the strip
+unfoldable pub greyBlock : List ℕ
+greyBlock =
+    12 ∷ 0 ∷
+    0 ∷ 1 ∷ 4 ∷ 0 ∷ 1 ∷ 0 ∷ 0 ∷ 0 ∷ 3 ∷ 0 ∷ 0 ∷ 0 ∷
+    1 ∷ 1 ∷ 4 ∷ 0 ∷ 1 ∷ 0 ∷ 0 ∷ 0 ∷ 2 ∷ 0 ∷ 0 ∷ 0 ∷
+    2 ∷ 1 ∷ 3 ∷ 0 ∷ 1 ∷ 0 ∷ 0 ∷ 0 ∷ 8 ∷ 0 ∷ 0 ∷ 0 ∷
+    3 ∷ 1 ∷ 3 ∷ 0 ∷ 1 ∷ 0 ∷ 0 ∷ 0 ∷ 1 ∷ 0 ∷ 0 ∷ 0 ∷
+    6 ∷ 1 ∷ 3 ∷ 0 ∷ 1 ∷ 0 ∷ 0 ∷ 0 ∷ 1 ∷ 0 ∷ 0 ∷ 0 ∷
+    17 ∷ 1 ∷ 4 ∷ 0 ∷ 1 ∷ 0 ∷ 0 ∷ 0 ∷ 166 ∷ 2 ∷ 0 ∷ 0 ∷
+    21 ∷ 1 ∷ 3 ∷ 0 ∷ 1 ∷ 0 ∷ 0 ∷ 0 ∷ 1 ∷ 0 ∷ 0 ∷ 0 ∷
+    22 ∷ 1 ∷ 4 ∷ 0 ∷ 1 ∷ 0 ∷ 0 ∷ 0 ∷ 2 ∷ 0 ∷ 0 ∷ 0 ∷
+    23 ∷ 1 ∷ 4 ∷ 0 ∷ 1 ∷ 0 ∷ 0 ∷ 0 ∷ 6 ∷ 0 ∷ 0 ∷ 0 ∷
+    26 ∷ 1 ∷ 5 ∷ 0 ∷ 1 ∷ 0 ∷ 0 ∷ 0 ∷ 150 ∷ 2 ∷ 0 ∷ 0 ∷
+    27 ∷ 1 ∷ 5 ∷ 0 ∷ 1 ∷ 0 ∷ 0 ∷ 0 ∷ 158 ∷ 2 ∷ 0 ∷ 0 ∷
+    40 ∷ 1 ∷ 3 ∷ 0 ∷ 1 ∷ 0 ∷ 0 ∷ 0 ∷ 1 ∷ 0 ∷ 0 ∷ 0 ∷
+    0 ∷ 0 ∷ 0 ∷ 0 ∷
+    1 ∷ 0 ∷ 0 ∷ 0 ∷ 1 ∷ 0 ∷ 0 ∷ 0 ∷
+    1 ∷ 0 ∷ 0 ∷ 0 ∷ 1 ∷ 0 ∷ 0 ∷ 0 ∷
+    1 ∷ 2 ∷ 3 ∷ 4 ∷ 5 ∷ 6 ∷
+    []
+
 pub record Known-sheets : Type 0 where
   pub ten-bilevel : packedSize 1 10 ≡ 2
   -- ten pixels, the first 1: it is the highest bit, and the row is padded with 0
@@ -41,14 +63,10 @@ pub record Known-sheets : Type 0 where
   pub short-little : lastBytes Little 0 (shorts 259 (5 ∷ [])) ≡ 5 ∷ 0 ∷ 0 ∷ 0 ∷ []
   pub header-little : header Little 512 ≡ 0x49 ∷ 0x49 ∷ 42 ∷ 0 ∷ 0 ∷ 2 ∷ 0 ∷ 0 ∷ []
   pub header-big : header Big 512 ≡ 0x4D ∷ 0x4D ∷ 0 ∷ 42 ∷ 0 ∷ 0 ∷ 2 ∷ 0 ∷ []
-  pub grey-size : length (blockOf Little false 0 2 grey 512) ≡ 172
+  pub grey-block : blockOf Little false 0 2 grey 512 ≡ greyBlock
+  pub grey-size : length greyBlock ≡ 172
   -- the strip begins after the directory of 150 bytes and two RATIONALs
   pub grey-start : 512 + headSize (outlineOf Little false 0 2 grey) ≡ 678
-  -- 12 entries, of which the first is 256, LONG, 1 value, 3
-  pub grey-first : take 14 (blockOf Little false 0 2 grey 512) ≡ 12 ∷ 0 ∷ 0 ∷ 1 ∷ 4 ∷ 0 ∷ 1 ∷ 0 ∷ 0 ∷ 0 ∷ 3 ∷ 0 ∷ 0 ∷ 0 ∷ []
-  -- the offset of the strip stands in entry 5: 273, LONG, 1 value, 678
-  pub grey-offset : take 12 (drop 62 (blockOf Little false 0 2 grey 512)) ≡ 17 ∷ 1 ∷ 4 ∷ 0 ∷ 1 ∷ 0 ∷ 0 ∷ 0 ∷ 166 ∷ 2 ∷ 0 ∷ 0 ∷ []
-  pub grey-strip : drop 166 (blockOf Little false 0 2 grey 512) ≡ 1 ∷ 2 ∷ 3 ∷ 4 ∷ 5 ∷ 6 ∷ []
   -- more rows than there are count as the height
   pub rows-cut : cutBy false 0 5 3 2 .high ≡ 2
   -- the red byte first

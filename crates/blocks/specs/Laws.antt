@@ -1,6 +1,5 @@
 -- What holds of every block. Assumes nothing.
 use Prim.Native.Nat.{ℕ, _+_, _-_, _*_, _<_, _≤_, min}
-use mathlib.Core.List.{List}
 use mathlib.Core.Path.{_≡_}
 use lib.ListN.{length}
 use Rattle.bytes.specs.Rows.{byte, tabulate}

@@ -2,15 +2,24 @@
 use crate::failed::Failed;
 use crate::failed::FailedFromAlloc;
 use crate::failed::FailedFromIo;
+use crate::files::load;
+use crate::files::load_text;
 use crate::info::print_info;
+use crate::replay::print_script;
+use crate::window::write_window;
+use raster::grid::Area;
 use std::env;
-use std::fs;
 
 // The sheet that a call with no words looks for in the current folder.
 const SHEET: &str = "sheet.tif";
 
-const USAGE: &str = "usage: jomavetro info FILE
-  info FILE    the byte order of a TIFF file and where its directories lie, or why it is refused
+const USAGE: &str = "usage:
+  jomavetro info FILE
+      the pages of a TIFF file, each with its size, kind and layout, or why it is refused
+  jomavetro window FILE PAGE X Y WIDTH HEIGHT OUT
+      a rectangle of a page as a Netpbm picture; OUT is a file, or - for the standard output
+  jomavetro replay SCRIPT
+      runs a script of calls, and prints each with its answer
 With no argument: info sheet.tif";
 
 // Says how to call the program.
@@ -19,30 +28,65 @@ fn wrong_call(rt: &LibcRuntime) -> Result<(), Failed> {
     Err(Failed::Call)
 }
 
-// A file's bytes; a file that cannot be read is named.
-fn load(rt: &LibcRuntime, name: &str) -> Result<Vec<u8>, Failed> {
-    match fs::read(rt, name) {
-        Ok(bytes) => Ok(bytes),
-        Err(e) => {
-            eprintln!(rt, "jomavetro: {name}: {e}")?;
-            Err(Failed::File)
-        }
-    }
-}
-
 fn info(rt: &LibcRuntime, name: &str) -> Result<(), Failed> {
     let bytes = load(rt, name)?;
     print_info(rt, name, bytes.as_slice())
 }
 
-// Runs the command that the arguments name.
-pub fn run(rt: &LibcRuntime) -> Result<(), Failed> {
-    let words: Vec<String> = env::args(rt)?.skip(1).collect(rt.alloc())?;
+fn replay(rt: &LibcRuntime, name: &str) -> Result<(), Failed> {
+    let text = load_text(rt, name)?;
+    print_script(rt, text.as_str())
+}
+
+// A number among the words; any other word is named.
+fn number(rt: &LibcRuntime, word: &str) -> Result<u32, Failed> {
+    match word.parse::<u32>() {
+        Ok(n) => Ok(n),
+        Err(_) => {
+            eprintln!(rt, "jomavetro: {word} is no number that fits 32 bits")?;
+            Err(Failed::Call)
+        }
+    }
+}
+
+fn window(rt: &LibcRuntime, words: &[String]) -> Result<(), Failed> {
+    if words.len() != 8 {
+        return wrong_call(rt);
+    }
+    let page = number(rt, words[2].as_str())?;
+    let area = Area {
+        x: number(rt, words[3].as_str())?,
+        y: number(rt, words[4].as_str())?,
+        width: number(rt, words[5].as_str())?,
+        height: number(rt, words[6].as_str())?,
+    };
+    write_window(rt, words[1].as_str(), page, area, words[7].as_str())
+}
+
+// Runs the command that some words name.
+fn start(rt: &LibcRuntime, words: &[String]) -> Result<(), Failed> {
     if words.len() == 0 {
         return info(rt, SHEET);
     }
-    if words.len() == 2 && words[0].as_str() == "info" {
+    let name = words[0].as_str();
+    if name == "--help" || name == "help" {
+        println!(rt, "{USAGE}")?;
+        return Ok(());
+    }
+    if name == "window" {
+        return window(rt, words);
+    }
+    if words.len() == 2 && name == "info" {
         return info(rt, words[1].as_str());
     }
+    if words.len() == 2 && name == "replay" {
+        return replay(rt, words[1].as_str());
+    }
     wrong_call(rt)
+}
+
+// Runs the command that the arguments name.
+pub fn run(rt: &LibcRuntime) -> Result<(), Failed> {
+    let words: Vec<String> = env::args(rt)?.skip(1).collect(rt.alloc())?;
+    start(rt, words.as_slice())
 }

@@ -1,5 +1,6 @@
 // A command that failed; what went wrong has been printed.
 use std::alloc::AllocError;
+use std::alloc::Refused;
 use std::io;
 
 #[derive(Drop, Debug)]
@@ -24,6 +25,12 @@ pub impl From<io::Error> for Failed as FailedFromIo {
 
 pub impl From<AllocError> for Failed as FailedFromAlloc {
     fn from(_e: AllocError) -> Failed {
+        Failed::Memory
+    }
+}
+
+pub impl<T: Drop> From<Refused<T>> for Failed as FailedFromRefused {
+    fn from(_e: Refused<T>) -> Failed {
         Failed::Memory
     }
 }

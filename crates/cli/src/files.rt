@@ -1,5 +1,6 @@
 // Files that are read and written whole.
 use crate::failed::Failed;
+use crate::failed::FailedFromAlloc;
 use crate::failed::FailedFromIo;
 use std::fs;
 

@@ -2,9 +2,8 @@
 use crate::failed::Failed;
 use crate::failed::FailedFromAlloc;
 use crate::failed::FailedFromIo;
+use crate::failed::FailedFromRefused;
 use crate::files::load;
-use drafts::call::Call;
-use faults::fault::Fault;
 use faults::shown::FaultDisplay;
 use holder::holder::Holder;
 use holder::shown::HolderGrid;

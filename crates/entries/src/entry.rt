@@ -89,7 +89,7 @@ pub fn size_of(kind: u16, count: u32) -> u64
 
 // Where values of some size begin, by the place of their entry and the number in its last four bytes.
 pub fn home_of(place: u32, size: u64, last: u32) -> u32
-    requires { ⌜ place + 8 < 2 ^ 32 ⌝ }
+    requires { ⌜ place + 12 < 2 ^ 32 ⌝ }
     ensures { λ r. ⌜ r ≡ homeOf place size last ⌝ }
 {
     if size <= 4 { place + 8 } else { last }

@@ -33,6 +33,10 @@ use Rattle.drafts.specs.Steps.{Held, held, world, Step, Answer, sized, shownOf,
 use Rattle.drafts.proofs.Stepping.{quiet-step, settled-step}
 use Rattle.holder.specs.Worlds.{layoutIn}
 
+pub none-is : {A : Type 0} (o : Option A) → isSome o ≡ false → o ≡ None
+none-is None e = refl
+none-is (Some x) e = absurd (true≢false e)
+
 -- a page that was opened, by its layout
 pub opened-ok : (r : Result Page Fault) (q : Result Layout Fault) (p : Page) → then r (λ p. Ok (p .layout)) ≡ q → r ≡ Ok p → q ≡ Ok (p .layout)
 opened-ok r q p e f = sym e ∙ ap (λ r. then r (λ p. Ok (p .layout))) f

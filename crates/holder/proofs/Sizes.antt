@@ -21,7 +21,7 @@ use Rattle.stored.specs.Sane.{sane, Sane, sane-parts}
 use Rattle.plans.specs.declared.plan.Plan.{Plan}
 use Rattle.plans.specs.declared.view.View.{View}
 use Rattle.plans.specs.Limits.{limited}
-use Rattle.plans.specs.Views.{within, showsIn, viewChecked, viewWidth, viewHeight}
+use Rattle.plans.specs.Views.{fitsIn, showsIn, viewChecked, viewWidth, viewHeight}
 use Rattle.plans.specs.Outlines.{Proper, spans, segmentsIn, blockSize, outlined, cutBy}
 use Rattle.drafts.specs.Steps.{sizedFor, outlineBy, widthOf, heightOf}
 
@@ -72,7 +72,7 @@ either false x y P p q = q
 
 pub view-sides : (l : Layout) (v : View) → Sane l → showsIn (widthOf l) (heightOf l) v ≡ true → Sides l v
 view-sides l v s t =
-    let whole = and-parts (within (widthOf l) (heightOf l) (v .area)) (between 1 8 (v .turn)) t .0 in
+    let whole = and-parts (fitsIn (widthOf l) (heightOf l) (v .area)) (between 1 8 (v .turn)) t .0 in
     let parts = and-parts (ltb 0 (v .area .width) && ltb 0 (v .area .height)) (leb (v .area .x + v .area .width) (widthOf l) && leb (v .area .y + v .area .height) (heightOf l)) whole in
     let some = and-parts (ltb 0 (v .area .width)) (ltb 0 (v .area .height)) (parts .0) in
     let most = and-parts (leb (v .area .x + v .area .width) (widthOf l)) (leb (v .area .y + v .area .height) (heightOf l)) (parts .1) in

@@ -7,13 +7,17 @@ use Rattle.std.specs.declared.option.Option.the-variants.{Some, None}
 use Rattle.std.specs.declared.result.Result.{Result}
 use Rattle.std.specs.declared.result.Result.the-variants.{Ok, Err}
 use Rattle.faults.specs.declared.fault.Fault.{Fault}
+use Rattle.faults.specs.declared.fault.Check.the-variants.{Closed}
+use Rattle.faults.specs.Faults.{bare}
 use Rattle.bytes.specs.Sectors.{Lists}
 use Rattle.raster.specs.Picture.{Picture}
 use Rattle.pages.specs.declared.layout.Layout.{Layout}
 use Rattle.stored.specs.declared.page.Page.{Page}
+use Rattle.plans.specs.declared.plan.Plan.{Plan}
+use Rattle.plans.specs.declared.view.View.{View}
 use Rattle.drafts.specs.declared.state.State.{State}
 use Rattle.drafts.specs.Mem.{Mem, memOf, Quiet}
-use Rattle.drafts.specs.Steps.{Held, World, world, held, pictureIn, Answer, sized}
+use Rattle.drafts.specs.Steps.{Held, World, world, held, pictureIn, Answer, sized, sizedFor}
 use Rattle.holder.specs.declared.holder.Holder.{Holder}
 
 -- the layout of a page
@@ -42,3 +46,8 @@ module _ {S : Type 0} (seen : S → List ℕ) where
 abbrev pub toldOpen : Picture → Result (Unit {0}) Fault → Answer
 toldOpen p (Ok _) = Ok (sized p)
 toldOpen p (Err f) = Err f
+
+-- the bytes that a draft would take
+abbrev pub askedSize : Option Layout → View → Plan → Result ℕ Fault
+askedSize None v plan = Err (bare Closed)
+askedSize (Some l) v plan = sizedFor l v plan

@@ -4,7 +4,7 @@ ghost use Rattle.drafts.specs.declared.call.Call.the-variants.{Begin, Rest, Swi
 ghost use Rattle.drafts.specs.Steps.{Step, Sound, sizedFor, sectors};
 ghost use Rattle.drafts.specs.Mem.{memOf};
 ghost use Rattle.plans.specs.Blocks.{header};
-ghost use Rattle.holder.specs.Worlds.{worldOf};
+ghost use Rattle.holder.specs.Worlds.{worldOf, heldBy, askedSize};
 ghost use Rattle.holder.specs.Told.{toldUnit, toldBegin, toldRest, toldSwitch, liveBegin, liveRest, liveSwitch, WroteBy};
 use crate::holder::Holder;
 use crate::shown::HolderGrid;
@@ -49,6 +49,16 @@ fn sectors_of(size: u64) -> u64
 }
 
 impl<C: Card> Holder<C> {
+    // The bytes that a draft of the picture would take; refused as Closed, View or Many.
+    pub fn draft_size(&self, view: View, plan: Plan) -> Result<u64, Fault>
+        ensures { λ r. ⌜ r ≡ askedSize (heldBy (now (self .entry) .state) .page) view plan ⌝ }
+    {
+        match self.state.page {
+            Some(page) => size_for(page, view, plan),
+            None => Err(Check::Closed.fault()),
+        }
+    }
+
     // Begins a draft of the picture through a view by a plan; answers the sectors to carry.
     pub fn begin(&mut self, view: View, plan: Plan) -> Result<(Begun, u64), Fault>
         ensures step { λ r. ⌜ Step (Begin view plan) (worldOf (C·Store .seen) (C·Store .may) (C·Store .trail) (now (self .entry))) (toldBegin r) (worldOf (C·Store .seen) (C·Store .may) (C·Store .trail) (now (self .exit))) ⌝ }

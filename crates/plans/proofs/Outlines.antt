@@ -1,20 +1,19 @@
 -- The segments of a draft: how many there are, and how many rows each has.
-use Prim.Native.Nat.{ℕ, zero, suc, _+_, _-_, _*_, _/_, _%_, _^_, _≤_, _<_, min}
-use mathlib.Core.Path.{_≡_, refl, sym, ap, ap₂, subst, _∙_}
-use mathlib.Core.Logic.{_⊎_, inl, inr, ⊎-elim}
-use mathlib.Core.Bool.{Bool, true, false, cond, _&&_, _||_}
+use Prim.Native.Nat.{ℕ, suc, _+_, _-_, _*_, _/_, _%_, _≤_, _<_, min}
+use mathlib.Core.Path.{_≡_, refl, sym, ap, _∙_}
+use mathlib.Core.Logic.{⊎-elim}
+use mathlib.Core.Bool.{Bool, true, false}
 use native.Mathlib.Omega.{arith}
 use native.Mathlib.Nat.{suc-mul, zero-mul, div-one, div-eq-of-lt-le, le-div-iff-mul-le, div-lt-iff-lt-mul, lt-div-mul-add, mul-le-mul, mul-le-mul-left, mul-le-mul-right}
 use lib.Arith.{digits-lt}
-use lib.Dec.{eqb, ltb, leb}
+use lib.Dec.{eqb, leb}
 use Rattle.std.proofs.shelf.Tests.{cond-true, cond-false, cond-both, cases-bool, and-parts, leb-true, le-leb, eqb-true, true≢false}
 use Rattle.std.proofs.shelf.Bits.{mul-lt}
 use Rattle.bytes.specs.Rows.{Bits, ceil, packedSize}
 use Rattle.bytes.proofs.Rows.{by-bits}
 use Rattle.raster.specs.declared.grid.Kind.{Kind}
 use Rattle.bytes.specs.declared.endian.Endian.{Endian}
-use Rattle.raster.specs.Picture.{Picture, Sound, empty, allowed, numberOf}
-use Rattle.pages.specs.declared.layout.Cut.{Cut}
+use Rattle.raster.specs.Picture.{Picture, Sound, allowed, numberOf}
 use Rattle.pages.specs.Geometry.{samplesOf, segments, firstRow, rowsOf, rowBytes}
 use Rattle.pages.specs.Pages.{between, tileSide}
 use Rattle.stored.specs.Sane.{allowed-bits}

@@ -1,22 +1,20 @@
 -- What is seen through a view, and its outline.
-use Prim.Native.Nat.{ℕ, _+_, _<_, _≤_}
-use mathlib.Core.Bool.{Bool, true, cond, _&&_}
+use Prim.Native.Nat.{ℕ, _<_, _≤_}
+use mathlib.Core.Bool.{Bool, true}
 use mathlib.Core.Path.{_≡_, ap}
 use native.Mathlib.Omega.{arith}
-use lib.Dec.{leb, ltb}
 use Rattle.std.proofs.shelf.Tests.{and-parts, cond-true, cond-both}
 use Rattle.bytes.specs.declared.endian.Endian.{Endian}
 use Rattle.raster.specs.declared.grid.Kind.{Kind}
-use Rattle.raster.specs.Picture.{Picture, Sound, empty, allowed}
+use Rattle.raster.specs.Picture.{Picture, empty, allowed}
 use Rattle.raster.specs.Views.{fits, rectangle, cropOf, turnBy, swaps}
 use Rattle.raster.specs.Soundness.{fits-parts, crop-sound, turn-sound}
 use Rattle.pages.specs.Pages.{between}
-use Rattle.plans.specs.declared.outline.Outline.{Outline}
 use Rattle.plans.specs.declared.plan.Plan.{Plan}
 use Rattle.plans.specs.declared.view.View.{View}
-use Rattle.plans.specs.Outlines.{outlined, outlineOf, cutBy, Proper}
+use Rattle.plans.specs.Outlines.{outlined, outlineOf, Proper}
 use Rattle.plans.specs.Plans.{planOutline}
-use Rattle.plans.specs.Views.{viewed, shows, viewWidth, viewHeight, Seen, Views-show}
+use Rattle.plans.specs.Views.{viewed, shows, viewWidth, viewHeight, Views-show}
 use Rattle.plans.proofs.Outlines.{outlined-proper}
 
 pub views-show : Views-show

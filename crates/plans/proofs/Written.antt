@@ -1,9 +1,8 @@
 -- A number of four bytes, written out.
-use Prim.Native.Nat.{ℕ, _+_, _-_, _*_, _/_, _%_, _^_, _<_}
+use Prim.Native.Nat.{ℕ, _/_, _%_, _<_}
 use mathlib.Core.Path.{_≡_}
-use mathlib.Core.List.{List, [], _∷_}
+use mathlib.Core.List.{[], _∷_}
 use native.Mathlib.Omega.{arith}
-use native.Mathlib.Nat.{div-one}
 use Rattle.bytes.specs.declared.endian.Endian.the-variants.{Little, Big}
 use Rattle.bytes.specs.Digits.{digit, byteOf}
 use Rattle.bytes.specs.Numbers.{numberBytes}

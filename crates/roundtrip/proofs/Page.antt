@@ -1,55 +1,33 @@
 -- A page that holds the fields and the segments of a block passes every check.
-use Prim.Native.Nat.{ℕ, zero, suc, _+_, _-_, _*_, _/_, _%_, _^_, _≤_, _<_, min}
-use mathlib.Core.Path.{_≡_, refl, sym, ap, ap₂, subst, _∙_}
-use mathlib.Core.Bool.{Bool, true, false, cond, not, _&&_, _||_}
-use mathlib.Core.List.{List, map, [], _∷_, _++_}
+use Prim.Native.Nat.{ℕ, _%_, _≤_, _<_, min}
+use mathlib.Core.Path.{_≡_, refl, sym, ap, ap₂, _∙_}
+use mathlib.Core.Bool.{Bool, true, false, cond, not, _&&_}
+use mathlib.Core.List.{List}
 use native.Mathlib.Omega.{arith}
 use lib.Dec.{eqb, ltb, leb}
-use lib.ListN.{length, getD}
-use Rattle.std.specs.Joined.{joined}
-use Rattle.std.specs.declared.result.Result.{Result}
-use Rattle.std.specs.declared.result.Result.the-variants.{Ok, Err}
-use Rattle.std.proofs.shelf.Counted.{length-map-counting, getD-map-counting}
-use Rattle.std.proofs.shelf.Tests.{eq-eqb, le-ltb, le-leb, and-from, cond-true, cond-false}
+use Rattle.std.specs.declared.result.Result.the-variants.{Ok}
+use Rattle.std.proofs.shelf.Tests.{eq-eqb, le-ltb, le-leb, and-from}
 use Rattle.std.proofs.shelf.Ways.{tells}
-use Rattle.faults.specs.declared.fault.Check.the-variants.{Kind as KindCheck, Size, Tally, Segment}
-use Rattle.faults.specs.declared.fault.Fault.{Fault}
-use Rattle.faults.specs.Faults.{fault, refused, then}
-use Rattle.bytes.specs.declared.endian.Endian.{Endian}
-use Rattle.bytes.specs.Numbers.{short, numberBytes}
-use Rattle.bytes.specs.Rows.{Holds}
+use Rattle.faults.specs.declared.fault.Check.the-variants.{Kind as KindCheck, Size, Tally}
+use Rattle.faults.specs.Faults.{then}
 use Rattle.raster.specs.declared.grid.Kind.{Kind}
 use Rattle.raster.specs.declared.grid.Photometric.{Photometric}
 use Rattle.raster.specs.declared.grid.Photometric.the-variants.{WhiteIsZero, BlackIsZero, Rgb}
 use Rattle.raster.specs.Picture.{allowed, numberOf, kindOf}
 use Rattle.entries.specs.declared.entry.Directory.{Directory}
-use Rattle.entries.specs.declared.entry.Entry.{Entry}
 use Rattle.entries.specs.declared.fields.Fields.{Fields}
-use Rattle.entries.specs.declared.fields.Form.the-variants.{Long}
-use Rattle.entries.specs.declared.fields.Numbers.{Numbers}
-use Rattle.entries.specs.Entries.{directoryAt, entriesFrom, entriesOf, scanned}
-use Rattle.entries.specs.Fields.{gathered, fielded, numberAt, nthOr}
-use Rattle.pages.specs.declared.layout.Cut.{Cut}
-use Rattle.pages.specs.declared.layout.Format.{Format}
+use Rattle.entries.specs.Fields.{gathered, nthOr}
 use Rattle.pages.specs.declared.layout.Layout.{Layout}
 use Rattle.pages.specs.declared.layout.Listing.{Listing}
 use Rattle.pages.specs.declared.layout.Sampling.{Sampling}
 use Rattle.pages.specs.declared.layout.Sides.{Sides}
-use Rattle.pages.specs.Geometry.{samplesOf, segments, segmentsOf, needed}
-use Rattle.pages.specs.Pages.{faultIn, tiled, offsetsTag, countsTag, complete, formatOf, samplingOf, sidesOf, valuesOf, pageSide, tileSide, formatted, sampled, tileCut, stripCut, cutOf, tallied, layoutOf, laidOut}
-use Rattle.pages.specs.Segments.{offsetOf, byteCountOf, lacking, segmentAt, segmentsFrom, filled}
-use Rattle.pages.specs.Opening.{pageOf, pageAt}
+use Rattle.pages.specs.Geometry.{samplesOf}
+use Rattle.pages.specs.Pages.{faultIn, tiled, offsetsTag, countsTag, formatOf, samplingOf, sidesOf, valuesOf, pageSide, tileSide, formatted, sampled, tileCut, stripCut, cutOf, tallied, layoutOf, laidOut}
 use Rattle.plans.specs.declared.outline.Outline.{Outline}
-use Rattle.plans.specs.Outlines.{Proper, segmentsIn, segmentSize, entriesIn, directorySize, offsetsBy, countsBy, blockLayout}
-use Rattle.plans.specs.Limits.{limited}
-use Rattle.plans.specs.Directories.{directoryBytes}
-use Rattle.plans.specs.Blocks.{segment, offsetsFrom, byteCounts, fieldsBy}
+use Rattle.plans.specs.Outlines.{Proper, segmentsIn, offsetsBy, countsBy}
 use Rattle.plans.proofs.Outlines.{Side, tile-limits, segment-sides}
-use Rattle.blocks.proofs.Numbers.{longs-read}
-use Rattle.blocks.proofs.Directory.{not-refused, laid, GoodAll, HeldAll, Said, entries-pass, directory-held}
-use Rattle.blocks.proofs.Fields.{ascending-fields, count-fields}
-use Rattle.blocks.proofs.Places.{length-segment}
-use Rattle.roundtrip.proofs.Reading.{entriesBy, HeldBy, Reads, fields-read, offsets-held, counts-held, listing-read, tiled-read, rows-read, across-read, down-read}
+use Rattle.blocks.proofs.Directory.{not-refused}
+use Rattle.roundtrip.proofs.Reading.{entriesBy, HeldBy, fields-read, listing-read, tiled-read, rows-read, across-read, down-read}
 
 -- The kind.
 

@@ -1,36 +1,32 @@
 -- What the fields of a block are read as.
-use Prim.Native.Nat.{ℕ, zero, suc, _+_, _-_, _*_, _/_, _%_, _^_, _≤_, _<_, min}
-use mathlib.Core.Path.{_≡_, refl, sym, ap, ap₂, subst, _∙_}
-use mathlib.Core.Bool.{Bool, true, false, cond, not, _&&_, _||_}
-use mathlib.Core.List.{List, map, [], _∷_, _++_}
+use Prim.Native.Nat.{ℕ, _+_, _*_, _<_}
+use mathlib.Core.Path.{_≡_, refl, ap, _∙_}
+use mathlib.Core.Bool.{Bool, true, false, cond}
+use mathlib.Core.List.{List, [], _∷_}
 use native.Mathlib.Omega.{arith}
-use lib.Dec.{eqb, ltb, leb}
+use lib.Dec.{ltb, leb}
 use lib.ListN.{length, getD}
 use Rattle.std.specs.Joined.{joined}
-use Rattle.std.specs.declared.option.Option.{Option}
-use Rattle.std.specs.declared.option.Option.the-variants.{Some, None}
-use Rattle.std.specs.declared.result.Result.{Result}
-use Rattle.std.specs.declared.result.Result.the-variants.{Ok, Err}
+use Rattle.std.specs.declared.option.Option.the-variants.{None}
+use Rattle.std.specs.declared.result.Result.the-variants.{Ok}
 use Rattle.std.proofs.shelf.Counted.{length-map-counting, getD-map-counting}
-use Rattle.std.proofs.shelf.Tests.{cond-both, ltb-true}
+use Rattle.std.proofs.shelf.Tests.{ltb-true}
 use Rattle.bytes.specs.Numbers.{numberBytes}
-use Rattle.bytes.specs.Rows.{Holds, tabulate}
+use Rattle.bytes.specs.Rows.{Holds}
 use Rattle.bytes.proofs.Rows.{holds-at}
 use Rattle.raster.specs.Picture.{numberOf}
 use Rattle.entries.specs.declared.entry.Entry.{Entry}
 use Rattle.entries.specs.declared.fields.Fields.{Fields}
 use Rattle.entries.specs.declared.fields.Form.the-variants.{Short, Long}
-use Rattle.entries.specs.declared.fields.Numbers.{Numbers}
 use Rattle.entries.specs.Entries.{homeOf}
 use Rattle.entries.specs.Fields.{gathered, numberAt, nthOr, countOr}
 use Rattle.pages.specs.Geometry.{samplesOf}
 use Rattle.entries.specs.declared.entry.Directory.{Directory}
-use Rattle.pages.specs.declared.layout.Listing.{Listing}
 use Rattle.pages.specs.Pages.{tiled, complete, listing, tileListing}
 use Rattle.plans.specs.declared.outline.Outline.{Outline}
-use Rattle.plans.specs.Outlines.{Proper, segmentsIn, segmentSize, directorySize, bitsSize, longsSize, longsAt, offsetsBy, countsBy}
+use Rattle.plans.specs.Outlines.{Proper, segmentsIn, segmentSize, directorySize, offsetsBy, countsBy}
 use Rattle.plans.specs.Blocks.{sampleBits, offsetsFrom, byteCounts, fieldsBy}
-use Rattle.plans.proofs.Outlines.{Segment-sides, segment-sides, samples-few}
+use Rattle.plans.proofs.Outlines.{segment-sides, samples-few}
 use Rattle.blocks.proofs.Numbers.{shorts-read, longs-read}
 use Rattle.blocks.proofs.Directory.{laid, HeldAll}
 use Rattle.blocks.proofs.Fields.{kind-small, photometric-small, outer-bits, outer-table}

@@ -1,27 +1,24 @@
 -- The round trip.
-use Prim.Native.Nat.{ℕ, zero, suc, _+_, _-_, _*_, _/_, _%_, _^_, _≤_, _<_, min}
+use Prim.Native.Nat.{ℕ, _+_, _*_, _%_, _≤_, _<_}
 use mathlib.Core.Path.{_≡_, refl, sym, ap, ap₂, subst, fun-ext, _∙_}
-use mathlib.Core.Logic.{_⊎_, inl, inr, ⊎-elim}
-use mathlib.Core.Bool.{Bool, true, false, cond, _&&_, _||_}
+use mathlib.Core.Bool.{Bool}
 use mathlib.Core.List.{List, [], _∷_, _++_, map}
 use native.Mathlib.Omega.{arith}
-use lib.Dec.{eqb, ltb, leb}
-use lib.ListN.{length, take, drop, getD, replicate}
+use lib.Dec.{ltb}
+use lib.ListN.{length, take, replicate}
 use Rattle.std.specs.Iters.{counting}
-use Rattle.std.specs.declared.result.Result.{Result}
 use Rattle.std.specs.declared.result.Result.the-variants.{Ok, Err}
 use Rattle.std.proofs.shelf.Lists.{length-append, length-replicate}
 use Rattle.std.proofs.shelf.Tests.{cond-both, and-parts, ltb-true}
 use Rattle.faults.specs.declared.fault.Check.the-variants.{Page}
-use Rattle.faults.specs.declared.fault.Fault.{Fault}
 use Rattle.faults.specs.Faults.{bare, then}
 use Rattle.bytes.specs.declared.endian.Endian.{Endian}
 use Rattle.bytes.specs.declared.endian.Endian.the-variants.{Little, Big}
 use Rattle.bytes.specs.Numbers.{short, long, numberBytes}
 use Rattle.bytes.specs.Rows.{Holds, chain}
 use Rattle.bytes.proofs.Held.{holds-part}
-use Rattle.bytes.proofs.Rows.{holds-at, holds-front, holds-back, holds-chain}
-use Rattle.raster.specs.Picture.{Picture, Sound, within, framed, levels, empty}
+use Rattle.bytes.proofs.Rows.{holds-front, holds-back, holds-chain}
+use Rattle.raster.specs.Picture.{Picture, Sound, within, framed, levels}
 use Rattle.raster.specs.Views.{turnBy}
 use Rattle.raster.proofs.Frames.{turn-one}
 use Rattle.links.specs.declared.directories.Directories.{Directories}
@@ -30,30 +27,27 @@ use Rattle.links.specs.Chain.{Stands}
 use Rattle.links.proofs.Accepted.{one-directory, accepted-page, accepted-no-page}
 use Rattle.links.proofs.Listing.{count-listed, endian-listed, place-listed}
 use Rattle.entries.specs.declared.entry.Directory.{Directory}
-use Rattle.entries.specs.declared.entry.Entry.{Entry}
-use Rattle.entries.specs.declared.fields.Fields.{Fields}
-use Rattle.entries.specs.Entries.{directoryAt, entriesFrom, entriesOf, scanned}
+use Rattle.entries.specs.Entries.{entriesFrom, entriesOf, scanned}
 use Rattle.entries.specs.Fields.{gathered, fielded}
 use Rattle.pages.specs.declared.layout.Layout.{Layout}
 use Rattle.pages.specs.Geometry.{needed}
 use Rattle.pages.specs.Pages.{valuesOf, laidOut}
 use Rattle.pages.specs.Segments.{offsetOf, filled}
 use Rattle.pages.specs.Opening.{pageOf, pageAt, opened}
-use Rattle.pages.specs.Extents.{Span, span, directorySpan, segmentSpan, valueSpans, extents, Covered}
-use Rattle.stored.specs.Pixels.{stored, pictureOf, shown, Shown, storedPixel}
+use Rattle.pages.specs.Extents.{segmentSpan, valueSpans, extents, Covered}
+use Rattle.stored.specs.Pixels.{stored, pictureOf, storedPixel}
 use Rattle.plans.specs.declared.outline.Outline.{Outline}
-use Rattle.plans.specs.Limits.{limited}
 use Rattle.plans.specs.Outlines.{Proper, outlineOf, segmentsIn, segmentSize, entriesIn, directorySize, headSize, blockSize, blockLayout}
 use Rattle.plans.specs.Directories.{Field, directoryBytes}
-use Rattle.plans.specs.Blocks.{segment, fieldsBy, fieldsIn, block, blockOf, header}
+use Rattle.plans.specs.Blocks.{segment, fieldsIn, block, blockOf, header}
 use Rattle.plans.proofs.Outlines.{some-segments, outline-proper}
 use Rattle.blocks.proofs.Chains.{holds-self}
 use Rattle.blocks.proofs.Directory.{GoodAll, Said, directory-held, entries-pass}
 use Rattle.blocks.proofs.Fields.{good-fields, ascending-fields, count-fields, outers-fields, head-length}
 use Rattle.blocks.proofs.Numbers.{number-held}
 use Rattle.blocks.proofs.Places.{length-segment, full-length, segments-length, length-block}
-use Rattle.roundtrip.specs.Laws.{Drafted, Has-picture, Opens-as, Page-round-trip, Round-trip, fileOf, File-opens}
-use Rattle.roundtrip.proofs.Reading.{entriesBy, HeldBy}
+use Rattle.roundtrip.specs.Laws.{Drafted, Page-round-trip, Round-trip, fileOf, File-opens}
+use Rattle.roundtrip.proofs.Reading.{entriesBy}
 use Rattle.roundtrip.proofs.Page.{laid-out}
 use Rattle.roundtrip.proofs.Segments.{offset-read, needed-is, page-filled, pixel-back}
 use Rattle.roundtrip.proofs.Spans.{Between, between-covered, between-append, between-map, between-values}

@@ -1,40 +1,36 @@
 -- The segments of a page that holds a block: their offsets, and the pixels in them.
 use Prim.Native.Nat.{ℕ, zero, suc, _+_, _-_, _*_, _/_, _%_, _^_, _≤_, _<_, min}
-use mathlib.Core.Path.{_≡_, refl, sym, ap, ap₂, subst, fun-ext, _∙_}
-use mathlib.Core.Logic.{inl, inr}
-use mathlib.Core.Bool.{Bool, true, false, cond, _&&_, _||_}
+use mathlib.Core.Path.{_≡_, refl, sym, ap, ap₂, subst, _∙_}
+use mathlib.Core.Bool.{Bool, true, false}
 use mathlib.Core.List.{List}
 use native.Mathlib.Omega.{arith}
 use native.Mathlib.Nat.{mod-lt, div-add-mod'}
 use lib.Arith.{digits-lt, digits-div, digits-mod}
-use lib.Dec.{eqb, ltb, leb}
+use lib.Dec.{ltb}
 use lib.ListN.{length, getD}
 use Rattle.std.specs.Joined.{joined}
-use Rattle.std.specs.declared.result.Result.{Result}
-use Rattle.std.specs.declared.result.Result.the-variants.{Ok, Err}
+use Rattle.std.specs.declared.result.Result.the-variants.{Ok}
 use Rattle.std.proofs.shelf.Bits.{pow-pos}
 use Rattle.std.proofs.shelf.Counted.{length-map-counting, getD-map-counting}
-use Rattle.std.proofs.shelf.Tests.{lt-ltb, le-leb, ltb-true, cond-true, cond-both, and-from, and-parts, eqb-true}
+use Rattle.std.proofs.shelf.Tests.{lt-ltb, le-leb, cond-true, cond-both, and-from, eqb-true}
 use Rattle.std.proofs.shelf.Ways.{tells}
 use Rattle.faults.specs.declared.fault.Check.the-variants.{Segment}
-use Rattle.faults.specs.declared.fault.Fault.{Fault}
-use Rattle.faults.specs.Faults.{fault, refused, then}
-use Rattle.bytes.specs.Digits.{packed, digit}
+use Rattle.faults.specs.Faults.{fault, then}
+use Rattle.bytes.specs.Digits.{digit}
 use Rattle.bytes.specs.Numbers.{numberBytes}
-use Rattle.bytes.specs.Rows.{byte, Holds, Bits, perByte, packedSize, sampleIn}
+use Rattle.bytes.specs.Rows.{byte, Holds, perByte, packedSize, sampleIn}
 use Rattle.bytes.proofs.Digits.{packed-same, packed-digit}
 use Rattle.bytes.proofs.Rows.{holds-chain, length-packedRow, sample-back, sample-within}
 use Rattle.reads.specs.Reads.{inside}
-use Rattle.raster.specs.declared.grid.Kind.{Kind}
 use Rattle.raster.specs.declared.grid.Photometric.{Photometric}
 use Rattle.raster.specs.declared.grid.Photometric.the-variants.{WhiteIsZero, BlackIsZero, Rgb}
 use Rattle.raster.specs.Picture.{allowed, levels, kindOf, within, framed}
 use Rattle.entries.specs.Fields.{numberAt}
 use Rattle.pages.specs.declared.layout.Layout.{Layout}
-use Rattle.pages.specs.Geometry.{samplesOf, across, segments, firstColumn, firstRow, rowsOf, rowBytes, needed}
+use Rattle.pages.specs.Geometry.{samplesOf, across, segments, firstRow, rowsOf, rowBytes, needed}
 use Rattle.pages.specs.Pages.{offsetsTag}
 use Rattle.pages.specs.Segments.{offsetOf, byteCountOf, lacking, segmentAt, segmentsFrom, filled}
-use Rattle.stored.specs.Pixels.{segmentOf, rowStart, firstSample, rowPlace, pixelPlace, pixelIn, storedPixel}
+use Rattle.stored.specs.Pixels.{segmentOf, pixelIn, storedPixel}
 use Rattle.stored.specs.Sane.{allowed-bits}
 use Rattle.stored.specs.Soundness.{levels-samples}
 use Rattle.plans.specs.declared.outline.Outline.{Outline}

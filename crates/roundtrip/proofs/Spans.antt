@@ -1,8 +1,8 @@
 -- Spans that lie between two places.
-use Prim.Native.Nat.{ℕ, zero, suc, _+_, _-_, _*_, _≤_, _<_}
-use mathlib.Core.Path.{_≡_, refl, ap, subst, sym, _∙_}
-use mathlib.Core.Logic.{_⊎_, inl, inr}
-use mathlib.Core.Bool.{Bool, true, false, cond, _&&_}
+use Prim.Native.Nat.{ℕ, zero, suc, _+_, _≤_, _<_}
+use mathlib.Core.Path.{_≡_, subst}
+use mathlib.Core.Logic.{inl, inr}
+use mathlib.Core.Bool.{false}
 use mathlib.Core.List.{List, [], _∷_, _++_, map}
 use native.Mathlib.Omega.{arith}
 use lib.Dec.{leb, ltb}
@@ -11,7 +11,7 @@ use Rattle.std.proofs.shelf.Tests.{cond-both, cond-false, and-parts, ltb-true, 
 use Rattle.entries.specs.declared.entry.Entry.{Entry}
 use Rattle.entries.specs.Entries.{sizeOf, homeOf, size}
 use Rattle.pages.specs.Extents.{Span, span, outer, valueSpans, Covered}
-use Rattle.plans.specs.Directories.{Field, inline, outerSize}
+use Rattle.plans.specs.Directories.{Field, outerSize}
 use Rattle.blocks.proofs.Directory.{laid, laidEntry, outers}
 
 -- each span begins at `low` or after and ends by `high`

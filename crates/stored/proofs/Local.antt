@@ -7,48 +7,34 @@ use native.Mathlib.Nat.{add-zero}
 use native.Mathlib.Omega.{arith}
 use lib.Dec.{leb}
 use lib.ListN.{length}
-use Rattle.std.specs.declared.result.Result.the-variants.{Ok}
-use Rattle.bytes.specs.declared.endian.Endian.{Endian}
 use Rattle.bytes.specs.Digits.{packed, digit}
-use Rattle.bytes.specs.Numbers.{short, long}
 use Rattle.bytes.specs.Rows.{byte, perByte}
 use Rattle.bytes.proofs.Digits.{packed-same}
 use Rattle.reads.specs.Agree.{Agree}
-use Rattle.reads.specs.Reads.{inside, shortAt, longAt}
-use Rattle.reads.proofs.Agreeing.{short-agrees, long-agrees}
+use Rattle.reads.specs.Reads.{inside}
 use Rattle.raster.specs.declared.grid.Photometric.{Photometric}
 use Rattle.raster.specs.declared.grid.Photometric.the-variants.{WhiteIsZero, BlackIsZero, Rgb}
 use Rattle.raster.specs.Picture.{kindOf, framed}
 use Rattle.raster.specs.Views.{turnBy}
 use Rattle.raster.proofs.Frames.{framed-same}
-use Rattle.entries.specs.declared.entry.Directory.{Directory}
-use Rattle.entries.specs.declared.fields.Form.{Form}
-use Rattle.entries.specs.declared.fields.Form.the-variants.{Short, Long}
-use Rattle.entries.specs.Entries.{directoryAt}
-use Rattle.entries.specs.Fields.{wide, placeOf, numberIn, numberAt}
 use Rattle.pages.specs.declared.layout.Layout.{Layout}
 use Rattle.pages.specs.Geometry.{samplesOf, segmentsOf, needed}
 use Rattle.pages.specs.Segments.{offsetOf}
 use Rattle.pages.specs.Opening.{HasPage}
 use Rattle.pages.specs.Extents.{extents, AgreeOn}
+use Rattle.rules.proofs.Locality.{page-local, page-stands}
 use Rattle.stored.specs.Pixels.{segmentOf, firstSample, storedPixel, stored, pictureOf}
 use Rattle.stored.specs.Reading.{startOf, sampleAt, rgbAt, pixelFrom}
 use Rattle.stored.specs.Sane.{Sane, sane-parts}
 use Rattle.stored.specs.Reads.{Pages-whole}
 use Rattle.stored.specs.Soundness.{picture-sound}
-use Rattle.stored.proofs.Accepted.{Accepted, page-known, opened-known}
-use Rattle.stored.proofs.Covering.{offset-covered, segment-covered, segment-inside}
+use Rattle.stored.proofs.Accepted.{at-sane, opened-sane, has-page}
+use Rattle.stored.proofs.Covering.{segment-covered, offset-same}
 use Rattle.stored.proofs.Pixel.{pixel-from}
 use Rattle.stored.proofs.Within.{in-segments, in-needed}
 
 inside-same : (bs cs : List ℕ) (place n : ℕ) → length bs ≡ length cs → inside bs place n ≡ inside cs place n
 inside-same bs cs place n e = ap (leb (place + n)) e
-
--- a number in bytes that agree
-number-agrees : (o : Endian) (bs cs : List ℕ) (f : Form) (place : ℕ) → length bs ≡ length cs → Agree bs cs place (wide f) → numberIn o bs f place ≡ numberIn o cs f place
-unfolding shortAt longAt
-number-agrees o bs cs Short place e a = ap₂ (λ (b : Bool) (v : ℕ). cond b v 0) (inside-same bs cs place 2 e) (short-agrees o bs cs place a)
-number-agrees o bs cs Long place e a = ap₂ (λ (b : Bool) (v : ℕ). cond b v 0) (inside-same bs cs place 4 e) (long-agrees o bs cs place a)
 
 sample-agrees : (bs cs : List ℕ) (b place s : ℕ) → Agree bs cs place 1 → sampleAt bs b place s ≡ sampleAt cs b place s
 unfolding sampleAt
@@ -66,19 +52,13 @@ pixel-agrees bs cs WhiteIsZero b place s e a = sample-agrees bs cs b place s a
 pixel-agrees bs cs BlackIsZero b place s e a = sample-agrees bs cs b place s a
 pixel-agrees bs cs Rgb b place s e a = rgb-agrees bs cs place e a
 
-module _ (bs cs : List ℕ) (l : Layout) (has : HasPage bs l) (long : length bs ≡ length cs) (agree : AgreeOn (extents bs l) bs cs) where
-  known : Accepted bs (l .directories) (directoryAt (l .directory .endian) bs (l .directory .page) (l .directory .place)) l
-  known = page-known bs (l .directories) (directoryAt (l .directory .endian) bs (l .directory .page) (l .directory .place)) l has
-
+module _ (bs cs : List ℕ) (l : Layout) (has : HasPage bs l) (long : length cs ≡ length bs) (agree : AgreeOn (extents bs l) bs cs) where
   proper : Sane l
-  proper = sane-parts l (known .laid .limits)
+  proper = sane-parts l (at-sane (l .directory .endian) bs (l .directories) (l .directory .page) (l .directory .place) l has)
 
   -- the offsets are the same
   pub offset-local : (k : ℕ) → k < segmentsOf l → offsetOf bs l k ≡ offsetOf cs l k
-  unfolding numberAt
-  offset-local k h =
-      number-agrees (l .directory .endian) bs cs (l .offsets .form) (placeOf (l .offsets) k) long
-      (λ i m. agree (placeOf (l .offsets) k + i) (offset-covered bs (l .directories) _ l known k i h m))
+  offset-local k h = offset-same bs cs l (page-local bs cs l has long agree .1) k h
 
   -- and so are the pixels
   pixel-local : (x y : ℕ) → x < l .width → y < l .height → storedPixel bs l x y ≡ storedPixel cs l x y
@@ -90,7 +70,7 @@ module _ (bs cs : List ℕ) (l : Layout) (has : HasPage bs l) (long : length bs 
       let same : offsetOf bs l k ≡ offsetOf cs l k = offset-local k few in
       let room : startOf l x y + samplesOf (l .kind) ≤ needed l k = in-needed l proper x y inx iny in
       sym (pixel-from bs l x y (proper .kind))
-      ∙ pixel-agrees bs cs (l .kind .photometric) (l .kind .bits) place s long
+      ∙ pixel-agrees bs cs (l .kind .photometric) (l .kind .bits) place s (sym long)
       (λ i m. agree (place + i) (segment-covered bs l k (place + i) few (omega arith) (omega (arith, room, m))))
       ∙ ap (λ n. pixelFrom cs (l .kind .photometric) (l .kind .bits) (n + startOf l x y) s) same
       ∙ pixel-from cs l x y (proper .kind)
@@ -109,13 +89,12 @@ module _ (bs cs : List ℕ) (l : Layout) (has : HasPage bs l) (long : length bs 
 -- the bytes of each pixel of an accepted page lie in the file
 pub pages-whole : Pages-whole
 pages-whole bs page l e =
-    let a = opened-known bs page l e in
-    let t = a .2 .laid .limits in
+    let t = opened-sane bs page l e in
     let s : Sane l = sane-parts l t in
     record {
       limits = t;
       sound = picture-sound bs l t;
       inside = λ x y inx iny.
           let k : ℕ = segmentOf (l .cut) (l .width) x y in
-          omega (arith, in-needed l s x y inx iny, segment-inside bs (a .0) (a .1) l (a .2) k (in-segments l s x y inx iny));
+          omega (arith, in-needed l s x y inx iny, has-page bs l (page-stands bs page l e) .segments k (in-segments l s x y inx iny) .within);
     }

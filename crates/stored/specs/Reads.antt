@@ -68,5 +68,5 @@ Pages-whole = (bs : List ℕ) (page : ℕ) (l : Layout) → opened bs page ≡ O
 
 -- two files that are as long and agree on the extents of a page have the same picture there, whatever their headers
 abbrev pub Pixels-local : Type 0
-Pixels-local = (bs cs : List ℕ) (l : Layout) → HasPage bs l → length bs ≡ length cs → AgreeOn (extents bs l) bs cs →
+Pixels-local = (bs cs : List ℕ) (l : Layout) → HasPage bs l → length cs ≡ length bs → AgreeOn (extents bs l) bs cs →
     (stored bs l ≡ stored cs l) × (pictureOf bs l ≡ pictureOf cs l)

@@ -1,6 +1,5 @@
 use Prim.Native.Nat.{ℕ, _*_}
 use mathlib.Core.Path.{_≡_, ap₂}
-use native.Mathlib.Omega.{arith}
 use borrow.Author.Needs.{needs}
 use Rattle.plans.specs.Outlines.{segmentSize}
 use Rattle.plans.proofs.Outlines.{segment-bounded}
