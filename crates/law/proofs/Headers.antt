@@ -1,12 +1,10 @@
 -- The picture of an accepted page does not depend on the header.
-use Prim.Native.Nat.{ℕ, suc, _+_, _-_, _*_, _%_, _^_, _<_, _≤_}
-use mathlib.Core.Bool.{Bool, true, false, cond, true≢false}
+use Prim.Native.Nat.{ℕ, _+_, _-_, _*_, _%_, _<_, _≤_}
+use mathlib.Core.Bool.{true≢false, true}
 use mathlib.Core.List.{List, [], _∷_}
 use mathlib.Core.Logic.{_⊎_, inl, inr, ⊎-elim}
-use mathlib.Core.Path.{_≡_, refl, sym, ap, ap₂, subst, _∙_}
-use native.Mathlib.Nat.{add-zero}
+use mathlib.Core.Path.{_≡_, refl, sym, ap, subst, _∙_}
 use native.Mathlib.Omega.{arith}
-use lib.Dec.{leb}
 use lib.ListN.{length, getD}
 use Rattle.std.specs.Options.{isSome}
 use Rattle.std.specs.shelf.Lists.{All}
@@ -16,14 +14,9 @@ use Rattle.std.specs.declared.result.Result.the-variants.{Ok}
 use Rattle.std.proofs.shelf.Tests.{cases-lt, cond-both}
 use Rattle.std.proofs.shelf.Lists.{getD-take}
 use Rattle.bytes.specs.declared.endian.Endian.{Endian}
-use Rattle.bytes.specs.Digits.{packed, digit}
 use Rattle.bytes.specs.Rows.{byte, perByte}
-use Rattle.bytes.proofs.Digits.{packed-same}
 use Rattle.reads.specs.Agree.{Agree}
-use Rattle.reads.specs.Reads.{inside}
-use Rattle.raster.specs.declared.grid.Photometric.{Photometric}
-use Rattle.raster.specs.declared.grid.Photometric.the-variants.{WhiteIsZero, BlackIsZero, Rgb}
-use Rattle.raster.specs.Picture.{kindOf, framed}
+use Rattle.raster.specs.Picture.{framed}
 use Rattle.raster.specs.Views.{turnBy}
 use Rattle.raster.proofs.Frames.{framed-same}
 use Rattle.links.specs.Links.{placesOf}
@@ -41,30 +34,16 @@ use Rattle.pages.specs.Pages.{tiled}
 use Rattle.pages.specs.Segments.{offsetOf}
 use Rattle.pages.specs.Opening.{opened}
 use Rattle.stored.specs.Pixels.{segmentOf, firstSample, storedPixel, stored, pictureOf}
-use Rattle.stored.specs.Reading.{startOf, sampleAt, rgbAt, pixelFrom}
+use Rattle.stored.specs.Reading.{startOf, pixelFrom}
 use Rattle.stored.specs.Sane.{Sane, sane-parts}
 use Rattle.stored.proofs.Accepted.{opened-sane}
 use Rattle.stored.proofs.Pixel.{pixel-from}
+use Rattle.stored.proofs.Local.{pixel-agrees}
 use Rattle.stored.proofs.Within.{in-segments, in-needed}
 use Rattle.rules.specs.Rules.{Entry-rules, tableIn, fieldsIn}
 use Rattle.rules.proofs.Fielding.{scanned-was}
 use Rattle.rules.proofs.Meeting.{Paged, page-was, Opened, opened-was}
 use Rattle.rules.proofs.Sharing.{entries-within, Within, Kept, Same, entry-shares, On, sought-on}
-
-sample-agrees : (bs cs : List ℕ) (b place s : ℕ) → Agree bs cs place 1 → sampleAt bs b place s ≡ sampleAt cs b place s
-unfolding sampleAt
-sample-agrees bs cs b place s a = ap (λ v. digit (2 ^ b) (perByte b) v s) (subst (λ q. byte bs q ≡ byte cs q) (add-zero place) (a 0 (omega arith)))
-
-rgb-agrees : (bs cs : List ℕ) (place : ℕ) → length bs ≡ length cs → Agree bs cs place 3 → rgbAt bs place ≡ rgbAt cs place
-unfolding rgbAt
-rgb-agrees bs cs place e a =
-    ap₂ (λ (b : Bool) (v : ℕ). cond b v 0) (ap (leb (place + 3)) e)
-    (packed-same 256 3 (λ i. byte bs (place + i) % 256) (λ i. byte cs (place + i) % 256) (λ i l. ap (λ v. v % 256) (a i l)))
-
-pixel-agrees : (bs cs : List ℕ) (p : Photometric) (b place s : ℕ) → length bs ≡ length cs → Agree bs cs place (samplesOf (kindOf p b)) → pixelFrom bs p b place s ≡ pixelFrom cs p b place s
-pixel-agrees bs cs WhiteIsZero b place s e a = sample-agrees bs cs b place s a
-pixel-agrees bs cs BlackIsZero b place s e a = sample-agrees bs cs b place s a
-pixel-agrees bs cs Rgb b place s e a = rgb-agrees bs cs place e a
 
 module _ (bs cs : List ℕ) (page : ℕ) (l : Layout) (accepted : opened bs page ≡ Ok l) (len : length cs ≡ length bs) (past : (i : ℕ) → 8 ≤ i → byte bs i ≡ byte cs i) where
   was : Opened bs page l

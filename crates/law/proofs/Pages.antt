@@ -67,7 +67,7 @@ same-page bs cs page l e len same =
     record {
       opens = subst (λ p. opened cs p ≡ Ok l) (sym z)
           (opening-local bs cs l (subst (λ p. opened bs p ≡ Ok l) z e) one len (λ i h. sym (same (0 + i) (λ _. inl (omega arith)))) covered);
-      picture = sym (picture-local bs cs l (page-stands bs page l e) (sym len) covered);
+      picture = sym (picture-local bs cs l (page-stands bs page l e) len covered);
     })
     (λ many. let all : cs ≡ bs = ext-getD 0 cs bs len (λ i _. same i (λ one. absurd (many one))) in
     record { opens = ap (λ b. opened b page) all ∙ e; picture = ap (λ b. pictureOf b l) all })
