@@ -8,14 +8,14 @@ use lib.ListN.{length, getD}
 use Rattle.std.specs.Joined.{joined}
 use Rattle.std.proofs.shelf.Lists.{length-append}
 use Rattle.std.proofs.shelf.Counted.{length-map-counting, getD-map-counting}
-use Rattle.std.proofs.shelf.Tests.{cond-true, le-leb}
 use Rattle.bytes.specs.declared.endian.Endian.{Endian}
 use Rattle.bytes.specs.Digits.{number, byteOf}
-use Rattle.bytes.specs.Numbers.{short, long, numberBytes}
+use Rattle.bytes.specs.Numbers.{numberBytes}
 use Rattle.bytes.specs.Rows.{byte, Holds}
 use Rattle.bytes.proofs.Digits.{number-byteOf, number-same}
 use Rattle.bytes.proofs.Rows.{holds-at, holds-front, holds-back}
-use Rattle.reads.specs.Reads.{inside, shortAt, longAt}
+use Rattle.reads.specs.Reads.{shortAt, longAt}
+use Rattle.reads.proofs.Parts.{short-inside, long-inside}
 use Rattle.entries.specs.declared.fields.Form.the-variants.{Short, Long}
 use Rattle.entries.specs.Fields.{numberAt}
 
@@ -46,12 +46,10 @@ number-here o bs p w (n ∷ ns) h (suc j) l =
 
 -- a number that is held is read
 pub short-read : (o : Endian) (bs : List ℕ) (p v : ℕ) → v < 65536 → Holds bs p (numberBytes o 2 v) → shortAt o bs p ≡ v
-unfolding shortAt
-short-read o bs p v b h = cond-true (inside bs p 2) (short o bs p) 0 (le-leb (p + 2) (length bs) (h .fits)) ∙ number-held o bs p 2 v b h
+short-read o bs p v b h = short-inside o bs p (h .fits) ∙ number-held o bs p 2 v b h
 
 pub long-read : (o : Endian) (bs : List ℕ) (p v : ℕ) → v < 4294967296 → Holds bs p (numberBytes o 4 v) → longAt o bs p ≡ v
-unfolding longAt
-long-read o bs p v b h = cond-true (inside bs p 4) (long o bs p) 0 (le-leb (p + 4) (length bs) (h .fits)) ∙ number-held o bs p 4 v b h
+long-read o bs p v b h = long-inside o bs p (h .fits) ∙ number-held o bs p 4 v b h
 
 -- number k of some that are held
 module _ (o : Endian) (bs : List ℕ) (c p : ℕ) (ns : List ℕ) (k : ℕ) (within : k < length ns) where

@@ -5,8 +5,12 @@ use crate::failed::FailedFromIo;
 use crate::files::load;
 use crate::files::load_text;
 use crate::info::print_info;
+use crate::relay::relay;
 use crate::replay::print_script;
 use crate::window::write_window;
+use crate::wishes::number;
+use crate::wishes::plan_of;
+use crate::wishes::wish_of;
 use raster::grid::Area;
 use std::env;
 
@@ -18,6 +22,9 @@ const USAGE: &str = "usage:
       the pages of a TIFF file, each with its size, kind and layout, or why it is refused
   jomavetro window FILE PAGE X Y WIDTH HEIGHT OUT
       a rectangle of a page as a Netpbm picture; OUT is a file, or - for the standard output
+  jomavetro relay FILE OUT II|MM strips ROWS [view X Y WIDTH HEIGHT] [turn K]
+  jomavetro relay FILE OUT II|MM tiles WIDTH LENGTH [view X Y WIDTH HEIGHT] [turn K]
+      lays page 0 out anew in place, and writes what the card then holds to OUT
   jomavetro replay SCRIPT
       runs a script of calls, and prints each with its answer
 With no argument: info sheet.tif";
@@ -38,17 +45,6 @@ fn replay(rt: &LibcRuntime, name: &str) -> Result<(), Failed> {
     print_script(rt, text.as_str())
 }
 
-// A number among the words; any other word is named.
-fn number(rt: &LibcRuntime, word: &str) -> Result<u32, Failed> {
-    match word.parse::<u32>() {
-        Ok(n) => Ok(n),
-        Err(_) => {
-            eprintln!(rt, "jomavetro: {word} is no number that fits 32 bits")?;
-            Err(Failed::Call)
-        }
-    }
-}
-
 fn window(rt: &LibcRuntime, words: &[String]) -> Result<(), Failed> {
     if words.len() != 8 {
         return wrong_call(rt);
@@ -63,6 +59,25 @@ fn window(rt: &LibcRuntime, words: &[String]) -> Result<(), Failed> {
     write_window(rt, words[1].as_str(), page, area, words[7].as_str())
 }
 
+fn lay_out(rt: &LibcRuntime, words: &[String]) -> Result<(), Failed> {
+    if words.len() < 6 {
+        return wrong_call(rt);
+    }
+    let (plan, count) = match plan_of(rt, &words[3..]) {
+        Ok(found) => found,
+        Err(Failed::Call) => return wrong_call(rt),
+        Err(failed) => return Err(failed),
+    };
+    if words.len() < 3 + count {
+        return wrong_call(rt);
+    }
+    match wish_of(rt, &words[3 + count..]) {
+        Ok(wish) => relay(rt, words[1].as_str(), words[2].as_str(), plan, wish),
+        Err(Failed::Call) => wrong_call(rt),
+        Err(failed) => Err(failed),
+    }
+}
+
 // Runs the command that some words name.
 fn start(rt: &LibcRuntime, words: &[String]) -> Result<(), Failed> {
     if words.len() == 0 {
@@ -75,6 +90,9 @@ fn start(rt: &LibcRuntime, words: &[String]) -> Result<(), Failed> {
     }
     if name == "window" {
         return window(rt, words);
+    }
+    if name == "relay" {
+        return lay_out(rt, words);
     }
     if words.len() == 2 && name == "info" {
         return info(rt, words[1].as_str());

@@ -1,8 +1,8 @@
 // What a file holds.
-use bytes::endian::Endian;
 use crate::failed::Failed;
 use crate::failed::FailedFromIo;
 use crate::meaning::meaning;
+use bytes::endian::Endian;
 use faults::fault::Fault;
 use faults::shown::FaultDisplay;
 use links::directories::Directories;
@@ -51,27 +51,31 @@ fn print_cut(rt: &LibcRuntime, cut: Cut, count: u32) -> Result<(), Failed> {
     Ok(())
 }
 
-fn print_layout(rt: &LibcRuntime, layout: Layout) -> Result<(), Failed> {
+fn print_layout(rt: &LibcRuntime, page: u32, layout: Layout) -> Result<(), Failed> {
+    let place = layout.directory.place;
     let width = layout.width;
     let height = layout.height;
     let bits = layout.kind.bits;
     let kind = kind_name(layout.kind);
     let orientation = layout.orientation;
-    println!(rt, "  {width} by {height} pixels, {bits} bits a sample, {kind}, orientation {orientation}")?;
+    println!(rt, "page {page}: directory at byte {place}")?;
+    println!(
+        rt,
+        "  {width} by {height} pixels, {kind}, {bits}-bit samples, orientation {orientation}"
+    )?;
     print_cut(rt, layout.cut, layout.offsets.count)
 }
 
-// A page: where its directory lies, and what it is or why it is refused.
-fn print_page(rt: &LibcRuntime, chip: &mut Chip, page: u32, place: u32) -> Result<bool, Failed> {
-    println!(rt, "page {page}: directory at byte {place}")?;
+// A page: what it is, or why it is refused.
+pub fn print_page(rt: &LibcRuntime, chip: &mut Chip, page: u32) -> Result<bool, Failed> {
     match open_page(chip, page) {
         Ok(layout) => {
-            print_layout(rt, layout)?;
+            print_layout(rt, page, layout)?;
             Ok(true)
         }
         Err(fault) => {
             let words = meaning(fault.check);
-            println!(rt, "  {words}")?;
+            println!(rt, "page {page}: {words}")?;
             println!(rt, "  {fault}")?;
             Ok(false)
         }
@@ -85,9 +89,7 @@ fn print_pages(rt: &LibcRuntime, chip: &mut Chip, found: &Directories) -> Result
     println!(rt, "directories: {count}")?;
     let mut accepted = true;
     for page in 0..count {
-        if let Ok(place) = found.place(page) {
-            accepted = print_page(rt, chip, page, place)? && accepted;
-        }
+        accepted = print_page(rt, chip, page)? && accepted;
     }
     if accepted {
         Ok(())

@@ -24,15 +24,10 @@ fn window_room(area: Area, kind: Kind) -> usize {
     let width = area.width as usize;
     let row = match kind.photometric {
         Photometric::Rgb => width.saturating_mul(3),
-        _ => {
-            if kind.bits == 1 {
-                width / 8 + 1
-            } else {
-                width
-            }
-        }
+        _ => { if kind.bits == 1 { width / 8 + 1 } else { width } }
     };
-    row.saturating_mul(area.height as usize).saturating_add(HEAD)
+    row.saturating_mul(area.height as usize)
+        .saturating_add(HEAD)
 }
 
 // Writes a picture to a file, or with `-` to the standard output.

@@ -1,3 +1,4 @@
 pub mod Calls
 pub mod Sizes
 pub mod Opens
+pub mod Carries

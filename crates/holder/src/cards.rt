@@ -1,17 +1,21 @@
 // The drafts of a holder over a card.
 ghost use mathlib.Core.Path.{_≡_};
-ghost use Rattle.drafts.specs.declared.call.Call.the-variants.{Begin, Rest, Switch, Keep, Scrap};
+ghost use Prim.Native.Nat.{_+_, _-_, _*_, _≤_};
+ghost use lib.ListN.{take};
+ghost use Rattle.drafts.specs.declared.call.Call.the-variants.{Begin, Carry, Rest, Switch, Keep, Scrap};
 ghost use Rattle.drafts.specs.Steps.{Step, Sound, sizedFor, sectors};
 ghost use Rattle.drafts.specs.Mem.{memOf};
 ghost use Rattle.plans.specs.Blocks.{header};
-ghost use Rattle.holder.specs.Worlds.{worldOf, heldBy, askedSize};
-ghost use Rattle.holder.specs.Told.{toldUnit, toldBegin, toldRest, toldSwitch, liveBegin, liveRest, liveSwitch, WroteBy};
+ghost use Rattle.writer.specs.Drafts.{draftSector};
+ghost use Rattle.holder.specs.Worlds.{worldOf, heldBy, pictureBy, askedSize};
+ghost use Rattle.holder.specs.Told.{toldUnit, toldBegin, toldCarry, toldRest, toldSwitch, liveBegin, liveCarry, liveRest, liveSwitch, WroteBy};
 use crate::holder::Holder;
 use crate::shown::HolderGrid;
 use crate::token::Begun;
 use crate::token::Rested;
 use crate::token::Switched;
 use crate::token::Token;
+use drafts::moves::next_stage;
 use drafts::state::Draft;
 use drafts::state::Stage;
 use faults::fault::Check;
@@ -24,6 +28,7 @@ use raster::grid::Grid;
 use raster::turns::then;
 use store::traits::Card;
 use stored::page::Page;
+use writer::sectors::fill_sector;
 
 // A page may be cut into at most this many segments.
 const MOST_SEGMENTS: u64 = 1024;
@@ -40,12 +45,32 @@ fn size_for(page: Page, view: View, plan: Plan) -> Result<u64, Fault>
     Ok(outline.size())
 }
 
+// Writes the front of a buffer to a card, in one write.
+fn write_front<C: Card>(
+    card: &mut C,
+    place: u32,
+    buffer: &[u8; 512],
+    count: usize,
+) -> Result<(), Fault>
+    requires { ⌜ count ≤ 512 ⌝ }
+    ensures { λ r. ⌜ WroteBy r (memOf (C·Store .seen) (C·Store .may) (C·Store .trail) (now (card .entry))) place (take count (now (buffer .entry))) (memOf (C·Store .seen) (C·Store .may) (C·Store .trail) (now (card .exit))) ⌝ }
+{
+    card.write(place, &buffer[0..count])
+}
+
 // The sectors that so many bytes take.
 fn sectors_of(size: u64) -> u64
     ensures { λ r. ⌜ r ≡ sectors size ⌝ }
 {
     let whole = size / 512;
     if size % 512 == 0 { whole } else { whole + 1 }
+}
+
+// The sectors left of so many once one more is carried than the `done` before.
+fn left_after(sectors: u64, done: u32) -> u64
+    ensures { λ r. ⌜ r ≡ sectors - (done + 1) ⌝ }
+{
+    sectors.saturating_sub(done as u64 + 1)
 }
 
 impl<C: Card> Holder<C> {
@@ -84,6 +109,48 @@ impl<C: Card> Holder<C> {
             stage: Stage::Begun(0),
         });
         Ok((Begun::new(), sectors_of(size)))
+    }
+
+    // Writes a sector of a draft, in one write.
+    fn put_sector(&mut self, draft: Draft, sector: u32) -> Result<(), Fault>
+        ensures wrote { λ r. ⌜ WroteBy r (memOf (C·Store .seen) (C·Store .may) (C·Store .trail) (now (self .entry) .store)) (draft .place + 512 * sector) (draftSector (draft .plan) (pictureBy (C·Store .seen) (now (self .entry))) (draft .view) (draft .place) sector) (memOf (C·Store .seen) (C·Store .may) (C·Store .trail) (now (self .exit) .store)) ⌝ }
+        ensures state { λ _. ⌜ now (self .exit) .state ≡ now (self .entry) .state ⌝ }
+    {
+        let mut buffer = [0u8; 512];
+        let count = fill_sector(
+            self,
+            draft.view,
+            draft.plan,
+            draft.place,
+            sector,
+            &mut buffer,
+        );
+        let at = draft.place as u64 + 512 * sector as u64;
+        if at > u32::MAX as u64 {
+            return Err(Check::Past.fault());
+        }
+        write_front(&mut self.store, at as u32, &buffer, count)
+    }
+
+    // Writes the next sector of the draft, or its last part, in one write; answers the sectors left.
+    pub fn carry(&mut self, token: Begun) -> Result<(Begun, u64), (Begun, Fault)>
+        ensures step { λ r. ⌜ (Sound (worldOf (C·Store .seen) (C·Store .may) (C·Store .trail) (now (self .entry))) → Step Carry (worldOf (C·Store .seen) (C·Store .may) (C·Store .trail) (now (self .entry))) (toldCarry r) (worldOf (C·Store .seen) (C·Store .may) (C·Store .trail) (now (self .exit)))) ⌝ }
+        ensures live { λ r. ⌜ liveCarry token r ⌝ }
+    {
+        let Some(draft) = self.state.draft else {
+            return Err((token, Check::Stage.fault()));
+        };
+        let Stage::Begun(done) = draft.stage else {
+            return Err((token, Check::Stage.fault()));
+        };
+        let size = match self.draft_size(draft.view, draft.plan) {
+            Ok(size) => size,
+            Err(fault) => return Err((token, fault)),
+        };
+        let sectors = sectors_of(size);
+        let _ = self.put_sector(draft, done);
+        self.state.draft = Some(draft.at(next_stage(sectors, done)));
+        Ok((token, left_after(sectors, done)))
     }
 
     // Settles the card under a draft that is carried.

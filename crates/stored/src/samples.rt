@@ -1,9 +1,8 @@
 // Samples read from any store.
 ghost use mathlib.Core.Path.{_≡_};
-ghost use mathlib.Core.Bool.{true};
 ghost use Prim.Native.Nat.{_+_, _-_, _*_, _^_, _<_};
-ghost use Rattle.bytes.specs.Digits.{digit, packed};
-ghost use Rattle.bytes.specs.Rows.{Bits, byte, perByte};
+ghost use Rattle.bytes.specs.Digits.{digit};
+ghost use Rattle.bytes.specs.Rows.{Bits, perByte};
 ghost use Rattle.stored.specs.Reading.{sampleAt, rgbAt, pixelFrom};
 ghost use Rattle.store.specs.Rules.{NoGain};
 use raster::grid::Kind;
