@@ -2,3 +2,4 @@ pub mod Calls
 pub mod Sizes
 pub mod Opens
 pub mod Carries
+pub mod Lines

@@ -1,3 +1,4 @@
 pub mod Worlds
 pub mod Told
 pub mod Soundness
+pub mod Lines

@@ -47,7 +47,7 @@ rgb-agrees bs cs place e a =
     (packed-same 256 3 (λ i. byte bs (place + i) % 256) (λ i. byte cs (place + i) % 256) (λ i l. ap (λ v. v % 256) (a i l)))
 
 -- a pixel in bytes that agree
-pixel-agrees : (bs cs : List ℕ) (p : Photometric) (b place s : ℕ) → length bs ≡ length cs → Agree bs cs place (samplesOf (kindOf p b)) → pixelFrom bs p b place s ≡ pixelFrom cs p b place s
+pub pixel-agrees : (bs cs : List ℕ) (p : Photometric) (b place s : ℕ) → length bs ≡ length cs → Agree bs cs place (samplesOf (kindOf p b)) → pixelFrom bs p b place s ≡ pixelFrom cs p b place s
 pixel-agrees bs cs WhiteIsZero b place s e a = sample-agrees bs cs b place s a
 pixel-agrees bs cs BlackIsZero b place s e a = sample-agrees bs cs b place s a
 pixel-agrees bs cs Rgb b place s e a = rgb-agrees bs cs place e a

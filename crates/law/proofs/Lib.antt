@@ -1,0 +1,12 @@
+pub mod Firm
+pub mod Pages
+pub mod Headers
+pub mod Blocks
+pub mod Good
+pub mod Founds
+pub mod Outcomes
+pub mod Opens
+pub mod Begins
+pub mod Carries
+pub mod Switches
+pub mod Runs

@@ -1,0 +1,3 @@
+pub mod Slate
+pub mod Book
+pub mod Run
