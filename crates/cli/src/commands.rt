@@ -83,7 +83,13 @@ fn lay_out(rt: &LibcRuntime, words: &[String]) -> Result<(), Failed> {
         return Err(Failed::Call);
     }
     let plan = plan_of(rt, rest)?;
-    lay_out_by(rt, words[1].as_str(), words[2].as_str(), plan, &rest[count..])
+    lay_out_by(
+        rt,
+        words[1].as_str(),
+        words[2].as_str(),
+        plan,
+        &rest[count..],
+    )
 }
 
 // Runs the command that some words name.

@@ -36,7 +36,7 @@ loop-line-again g c =
     let stepped : Stepped v (lineOf (getD ls i old) line) w = c .answer .ensures .stepped in (
       replayed-more sent ls i old line here same (c .loop-line .inv .0),
       subst (λ (z : List RunLine). Held-to start z w) (sym (lines-more sent ls i old line here (c .loop-line .inv .0 .rest)))
-      (held-more start (linesOf (take i sent) (take i ls)) v w (lineOf (getD ls i old) line) (c .loop-line .inv .1) stepped),
+          (held-more start (linesOf (take i sent) (take i ls)) v w (lineOf (getD ls i old) line) (c .loop-line .inv .1) stepped),
     )
 
 pub returns : need.returns
