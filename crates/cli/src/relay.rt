@@ -111,6 +111,7 @@ pub fn relay(
     println!(rt, "from {name}:")?;
     print_file(rt, bytes.as_slice())?;
     extend(&mut bytes, room)?;
+    eprintln!(rt, "jomavetro: carrying a draft of {room} bytes")?;
     let mut holder = Holder::new(Memory::new(bytes.as_mut_slice()));
     let sectors = lay_out_first(rt, &mut holder, plan, wish)?;
     drop(holder);
