@@ -1,4 +1,6 @@
 // The block of a draft: what holds of every block, and some blocks worked out by hand.
+#![tactic(auto)]
+
 ghost use Rattle.blocks.specs.Laws.{BlocksKnown};
 ghost use Rattle.blocks.specs.Known.{KnownSheets};
 

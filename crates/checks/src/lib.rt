@@ -1,2 +1,4 @@
 // The checks of a whole page, by its tags and their values.
+#![tactic(auto)]
+
 pub mod whole;

@@ -1,10 +1,10 @@
 // What a file holds.
 use crate::failed::Failed;
 use crate::meaning::meaning;
-use octets::endian::Endian;
 use faults::fault::Fault;
 use links::directories::Directories;
 use links::walk::walk;
+use octets::endian::Endian;
 use opening::page::open_page;
 use pages::layout::{Cut, Layout};
 use raster::grid::{Kind, Photometric};

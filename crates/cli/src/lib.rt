@@ -1,4 +1,6 @@
 // The commands of the program.
+#![tactic(auto)]
+
 pub mod commands;
 pub mod failed;
 pub mod files;

@@ -1,11 +1,11 @@
 // Scripts of calls, run card by card.
 use crate::failed::Failed;
 use crate::files::load;
-use octets::endian::Endian;
 use drafts::call::{Call, Reply};
 use faults::fault::Fault;
 use hold::Hold;
 use holder::replay::{Line, replay};
+use octets::endian::Endian;
 use plans::plan::Plan;
 use plans::view::View;
 use script::hash::fnv;

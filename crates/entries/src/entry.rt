@@ -2,8 +2,8 @@
 ghost use Rattle.std.specs.Prelude.{◌≡◌, ◌+◌, ◌*◌, ◌^◌, ◌<◌};
 ghost use Rattle.entries.specs.Entries.{unit, size_of, home_of, shape_of, fits, size, astray, accepted};
 
-use octets::endian::Endian;
 use faults::fault::{Check, Fault};
+use octets::endian::Endian;
 
 // The number of the type of two-byte numbers, and that of four-byte numbers.
 pub const SHORT: u16 = 3;

@@ -6,8 +6,8 @@ ghost use Rattle.entries.specs.Fields.{fielded, number_at, nth_or, count_or};
 
 use crate::entry::*;
 use crate::fields::*;
-use octets::endian::Endian;
 use faults::fault::Fault;
+use octets::endian::Endian;
 use reads::numbers::{fill, read_long, read_short};
 use store::traits::Store;
 

@@ -1,4 +1,6 @@
 // What stands before the pixels of a draft: its directory and the values after it, byte by byte.
+#![tactic(auto)]
+
 mod contents;
 pub mod head;
 mod numbers;

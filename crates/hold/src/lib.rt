@@ -1,4 +1,6 @@
 // A card that keeps what was written last, and writes it below later.
+#![tactic(auto)]
+
 mod slots;
 
 ghost use Rattle.std.specs.Prelude.{◌≡◌, ℕ, ◌+◌, ◌-◌, ◌*◌, ◌/◌, ◌%◌, ◌<◌, ◌≤◌, true, false, length, is_ok, ◌≢◌, slice_index};

@@ -1,4 +1,6 @@
 // The program: wiring sheets in TIFF, looked at and laid out anew.
+#![tactic(auto)]
+
 use cli::commands::run;
 use cli::failed::Failed;
 

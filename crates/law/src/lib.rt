@@ -1,4 +1,6 @@
 // The law over whole runs of a holder.
+#![tactic(auto)]
+
 ghost use Rattle.law.specs.Run.{RunsLawful};
 
 // The theorem that every run of a holder, over any store and whatever is on it at first, obeys the law: each call answers as is laid down,

@@ -2,8 +2,8 @@
 ghost use Rattle.std.specs.Prelude.{◌≡◌};
 ghost use Rattle.links.specs.Links.{placed};
 
-use octets::endian::Endian;
 use faults::fault::{Check, Fault};
+use octets::endian::Endian;
 
 // A file has at most this many directories.
 pub const MOST: usize = 32;

@@ -6,8 +6,8 @@ ghost use Rattle.links.specs.Links.{named, headed, has, stray, bad_count, link_c
 ghost use Rattle.links.specs.Chain.{ChainFound, ChainLocal};
 
 use crate::directories::{Directories, MOST};
-use octets::endian::Endian;
 use faults::fault::{Check, Fault};
+use octets::endian::Endian;
 use reads::numbers::{fill, read_long, read_short};
 use store::traits::Store;
 

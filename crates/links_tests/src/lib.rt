@@ -1,12 +1,14 @@
 // Small files by hand, walked along their directories.
+#![tactic(auto)]
+
 ghost use Rattle.std.specs.Prelude.{◌≤◌};
 
 #[cfg(test)]
 mod tests {
-    use octets::endian::Endian;
     use faults::fault::{Check, Fault};
     use links::directories::Directories;
     use links::walk::walk;
+    use octets::endian::Endian;
     use std::test::Fail;
     use store::slices::Chip;
 

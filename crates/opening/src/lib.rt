@@ -1,3 +1,5 @@
 // The opening of a page of a file in any store.
+#![tactic(auto)]
+
 pub mod page;
 pub mod values;

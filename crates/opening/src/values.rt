@@ -3,9 +3,9 @@ ghost use Rattle.std.specs.Prelude.{◌≡◌};
 ghost use Rattle.entries.specs.Looking.{Looked};
 ghost use Rattle.pages.specs.Pages.{format_of, sampling_of, sides_of, values_of};
 
-use octets::endian::Endian;
 use entries::fields::Fields;
 use entries::reading::{count_or, read_or};
+use octets::endian::Endian;
 use pages::layout::*;
 use store::traits::Store;
 

@@ -1,4 +1,6 @@
 // The law over piles: a hold over a tray over any card is again a card, so it holds there too.
+#![tactic(auto)]
+
 ghost use Rattle.store.specs.Lent.{counted, alone};
 ghost use Rattle.law.specs.Run.{LawfulRun};
 ghost use Rattle.holder.specs.Lines.{lines_of};

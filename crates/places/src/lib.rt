@@ -1,4 +1,6 @@
 // Where a draft goes.
+#![tactic(auto)]
+
 pub mod extent;
 pub mod look;
 pub mod search;

@@ -9,9 +9,9 @@ ghost use Rattle.stored.specs.Sane.{Sane};
 ghost use Rattle.places.specs.Search.{span_of, outer_span, passed_all, passed_value, passed_segments};
 
 use crate::extent::*;
-use octets::endian::Endian;
 use entries::entry::{Directory, size_of};
 use entries::reading::read_number;
+use octets::endian::Endian;
 use pages::layout::Layout;
 use reads::numbers::fill;
 use store::traits::Store;

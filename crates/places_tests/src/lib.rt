@@ -1,4 +1,6 @@
 // The places of drafts beside small sheets made by hand.
+#![tactic(auto)]
+
 ghost use Rattle.std.specs.Prelude.{◌+◌, ◌≤◌};
 
 #[cfg(test)]

@@ -1,4 +1,6 @@
 // What a draft is made by: plans, views, and the outline of the block that they make of a picture.
+#![tactic(auto)]
+
 pub mod header;
 pub mod outline;
 pub mod plan;

@@ -2,9 +2,9 @@
 ghost use Rattle.std.specs.Prelude.{◌≡◌, ◌-◌, ◌^◌, ◌<◌, ◌≤◌};
 ghost use Rattle.plans.specs.Outlines.{Proper, segments_in, segment_size, entries_in, bits_size, longs_size, head_size, block_size, longs_at, offsets_by, counts_by, block_layout};
 
-use octets::endian::Endian;
 use entries::entry::Directory;
 use entries::fields::{Form, Numbers};
+use octets::endian::Endian;
 use pages::layout::{Cut, Layout};
 use raster::grid::{Kind, Photometric};
 

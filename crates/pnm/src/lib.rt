@@ -1,4 +1,6 @@
 // Netpbm files: what a picture's file is, and the writing of its head and its pixels.
+#![tactic(auto)]
+
 pub mod head;
 pub mod output;
 pub mod pixels;

@@ -76,7 +76,7 @@ impl<G: Grid> Grid for Crop<G> {
 
 // Whether an area has sides above 0 and passes no edge of the grid.
 pub fn fits<G: Grid>(grid: &G, area: Area) -> bool
-    ensures { result ≡ fits (picture grid.now) area }
+    ensures { result ≡ fits (G.picture grid.now) area }
 {
     let size = grid.size();
     area.width > 0

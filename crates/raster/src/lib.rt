@@ -1,4 +1,6 @@
 // Grids of pixels, their rectangles and their turns.
+#![tactic(auto)]
+
 pub mod crop;
 pub mod grid;
 pub mod kind;

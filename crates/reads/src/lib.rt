@@ -1,2 +1,4 @@
 // Bytes and numbers read from any store.
+#![tactic(auto)]
+
 pub mod numbers;

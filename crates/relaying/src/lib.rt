@@ -1,4 +1,6 @@
 // A page laid out anew, from the beginning of a draft to its keeping.
+#![tactic(auto)]
+
 ghost use Rattle.relaying.specs.Tokens.{IsRested};
 
 use faults::fault::Fault;

@@ -1,4 +1,6 @@
 // Bytes that hold the block of a picture open as that picture.
+#![tactic(auto)]
+
 ghost use Rattle.roundtrip.specs.Laws.{PageRoundTrip, RoundTrip, FileOpens};
 
 // The theorem that bytes which hold the block of a picture have its page, whatever their header, and that with the header

@@ -1,4 +1,6 @@
 // Long lists of calls, with drafts, over piles of layers, with the answers of another implementation.
+#![tactic(auto)]
+
 use cli::commands::run;
 use cli::failed::Failed;
 

@@ -1,4 +1,6 @@
 // The text of a script of calls, line by line, and the hash that answers are compared by.
+#![tactic(auto)]
+
 pub mod hash;
 pub mod request;
 pub mod words;

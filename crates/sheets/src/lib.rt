@@ -1,2 +1,4 @@
 // Grids over pixels in memory.
+#![tactic(auto)]
+
 pub mod sheet;

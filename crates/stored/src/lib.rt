@@ -1,4 +1,6 @@
 // The pixels of a page in any store.
+#![tactic(auto)]
+
 pub mod laws;
 pub mod page;
 pub mod places;

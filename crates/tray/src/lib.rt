@@ -1,4 +1,6 @@
 // A part of a store.
+#![tactic(auto)]
+
 ghost use Rattle.std.specs.Prelude.{◌≡◌, ℕ, ◌+◌, length};
 ghost use Rattle.tray.specs.Parts.{fits, cut, cut_lists};
 ghost use Rattle.tray.specs.PartLaws.{part_laws};

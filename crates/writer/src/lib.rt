@@ -1,4 +1,6 @@
 // A draft of what is seen of any grid through a view, sector by sector.
+#![tactic(auto)]
+
 pub mod painting;
 pub mod pixels;
 pub mod sectors;

@@ -1,4 +1,6 @@
 // Tests of drafts against bytes made by the rules of the format in another language, and read by libtiff.
+#![tactic(auto)]
+
 #[cfg(test)]
 mod counted;
 #[cfg(test)]

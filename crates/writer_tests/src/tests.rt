@@ -1,7 +1,7 @@
 use crate::counted::Counted;
 use crate::{expected, pictures};
-use octets::endian::Endian;
 use faults::fault::Fault;
+use octets::endian::Endian;
 use plans::plan::Plan;
 use plans::view::View;
 use raster::grid::*;

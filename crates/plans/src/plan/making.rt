@@ -5,8 +5,8 @@ ghost use Rattle.plans.specs.Plans.{Made, plan_outline};
 
 use crate::outline::Outline;
 use crate::plan::Plan;
-use octets::endian::Endian;
 use faults::fault::{Check, Fault};
+use octets::endian::Endian;
 use pages::layout::Cut;
 use raster::grid::{Kind, Size};
 

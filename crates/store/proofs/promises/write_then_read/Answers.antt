@@ -18,7 +18,7 @@ returns-in-err-write g c =
 
 pub returns : goal.returns
 returns g c =
-    let f = c.in-ok-write.ensures in
+    let f = c.in_ok-write.ensures in
     let w = c.write.ensures in
     let q = c.read.ensures in
     record {

@@ -21,4 +21,4 @@ returns c =
     let n = length_counted c.args.bytes.now in
     let h = leb-true _ _ (sym c.within.ensures ∙ c.if-not-within.false) in
     let k : c.args.place + length c.args.buffer.now ≤ length (counted c.args.bytes.now) = omega arith in
-    record { answer = k; got = c.copy-from-slice.ensures.after ∙ counted_part c.args.bytes.now c.args.place _ k }
+    record { answer = k; got = c.copy_from_slice.ensures.after ∙ counted_part c.args.bytes.now c.args.place _ k }

@@ -15,4 +15,4 @@ pub returns : goal.returns
 returns c =
     let n = length_counted c.args.target.now in
     let h = leb-true _ _ (sym c.within.ensures ∙ c.if-not-within.false) in
-    record { answer = omega arith; put = overwritten c.args.target.now c.args.bytes.now _ c.args.place c.copy-from-slice.ensures.after }
+    record { answer = omega arith; put = overwritten c.args.target.now c.args.bytes.now _ c.args.place c.copy_from_slice.ensures.after }
