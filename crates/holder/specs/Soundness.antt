@@ -22,8 +22,8 @@ module _ {S : Type 0} (seen : S → List ℕ) where
   holder_sound h = shown_sound h.state.page (seen h.store)
 
   module _ (may trail : S → Lists) where
-    abbrev pub holder-keeps : Kept (Holder S)
-    holder-keeps = record {
+    abbrev pub holder_keeps : Kept (Holder S)
+    holder_keeps = record {
       across = KeptBy seen may trail;
       none = λ h. record { state = refl; quiet = record { seen = refl; may = record { none = λ s c i. i }; trail = record { none = λ s c i. i } } };
       both = λ p q. record {

@@ -4,7 +4,7 @@ ghost use Rattle.drafts.specs.declared.call.Call.TheVariants.{Open, Window, Arro
 ghost use Rattle.drafts.specs.Steps.{Step, number, fresh};
 ghost use Rattle.netpbm.specs.Window.{window_buffer};
 ghost use Rattle.holder.specs.Worlds.{worldOf, held_by, picture_by, told_open};
-ghost use Rattle.holder.specs.Soundness.{holder_sound, holder-keeps};
+ghost use Rattle.holder.specs.Soundness.{holder_sound, holder_keeps};
 
 use crate::holder::Holder;
 use drafts::state::State;
@@ -19,7 +19,7 @@ impl<S: Store> Grid for Holder<S> {
 
     ghost sound = { holder_sound S.Store.seen };
 
-    ghost keeps = { holder-keeps S.Store.seen S.Store.may S.Store.trail };
+    ghost keeps = { holder_keeps S.Store.seen S.Store.may S.Store.trail };
 
     fn size(&self) -> Size {
         match self.state.page {

@@ -11,12 +11,12 @@ use raster::grid::*;
 
 // The pixel at a column and a row of an area that fits.
 fn sample<G: Grid>(grid: &mut G, area: Area, column: u32, row: u32) -> u32
-    requires fits { fits (picture grid.old) area ≡ true }
+    requires fits { fits (G.picture grid.old) area ≡ true }
     requires column { column < area.width }
     requires row { row < area.height }
-    ensures value { result ≡ (rectangle (picture grid.old) area).at column row }
-    ensures kept { picture grid.new ≡ picture grid.old }
-    ensures keeps { keeps.across grid.old grid.new }
+    ensures value { result ≡ (rectangle (G.picture grid.old) area).at column row }
+    ensures kept { G.picture grid.new ≡ G.picture grid.old }
+    ensures keeps { G.keeps.across grid.old grid.new }
 {
     match grid.pixel(area.x + column, area.y + row) {
         Ok(v) => v,
@@ -26,12 +26,12 @@ fn sample<G: Grid>(grid: &mut G, area: Area, column: u32, row: u32) -> u32
 
 // A row of grey or RGB pixels.
 fn put_pixels<G: Grid>(grid: &mut G, area: Area, row: u32, buffer: &mut [u8], at: usize) -> usize
-    requires fits { fits (picture grid.old) area ≡ true }
+    requires fits { fits (G.picture grid.old) area ≡ true }
     requires row { row < area.height }
-    requires room { at + length (pixel_row (rectangle (picture grid.old) area) row) ≤ length buffer.old }
-    ensures put { Put buffer.old at (pixel_row (rectangle (picture grid.old) area) row) buffer.new result }
-    ensures kept { picture grid.new ≡ picture grid.old }
-    ensures keeps { keeps.across grid.old grid.new }
+    requires room { at + length (pixel_row (rectangle (G.picture grid.old) area) row) ≤ length buffer.old }
+    ensures put { Put buffer.old at (pixel_row (rectangle (G.picture grid.old) area) row) buffer.new result }
+    ensures kept { G.picture grid.new ≡ G.picture grid.old }
+    ensures keeps { G.keeps.across grid.old grid.new }
 {
     let kind = grid.kind();
     let mut end = at;
@@ -44,12 +44,12 @@ fn put_pixels<G: Grid>(grid: &mut G, area: Area, row: u32, buffer: &mut [u8], at
 
 // A bilevel pixel, 1 for black; 0 past the last column.
 fn bit<G: Grid>(grid: &mut G, area: Area, row: u32, column: u32) -> u8
-    requires fits { fits (picture grid.old) area ≡ true }
-    requires bilevel { bilevel (picture grid.old).kind ≡ true }
+    requires fits { fits (G.picture grid.old) area ≡ true }
+    requires bilevel { bilevel (G.picture grid.old).kind ≡ true }
     requires row { row < area.height }
-    ensures value { result ≡ black (rectangle (picture grid.old) area) row column }
-    ensures kept { picture grid.new ≡ picture grid.old }
-    ensures keeps { keeps.across grid.old grid.new }
+    ensures value { result ≡ black (rectangle (G.picture grid.old) area) row column }
+    ensures kept { G.picture grid.new ≡ G.picture grid.old }
+    ensures keeps { G.keeps.across grid.old grid.new }
 {
     if column >= area.width {
         return 0;
@@ -60,13 +60,13 @@ fn bit<G: Grid>(grid: &mut G, area: Area, row: u32, column: u32) -> u8
 
 // Eight bilevel pixels, the first in the highest bit.
 fn octet<G: Grid>(grid: &mut G, area: Area, row: u32, place: u32) -> u8
-    requires fits { fits (picture grid.old) area ≡ true }
-    requires bilevel { bilevel (picture grid.old).kind ≡ true }
+    requires fits { fits (G.picture grid.old) area ≡ true }
+    requires bilevel { bilevel (G.picture grid.old).kind ≡ true }
     requires row { row < area.height }
     requires place { 8 * place < area.width }
-    ensures value { result ≡ octet (rectangle (picture grid.old) area) row place }
-    ensures kept { picture grid.new ≡ picture grid.old }
-    ensures keeps { keeps.across grid.old grid.new }
+    ensures value { result ≡ octet (rectangle (G.picture grid.old) area) row place }
+    ensures kept { G.picture grid.new ≡ G.picture grid.old }
+    ensures keeps { G.keeps.across grid.old grid.new }
 {
     let mut value = 0;
     for i in 0..8 {
@@ -77,13 +77,13 @@ fn octet<G: Grid>(grid: &mut G, area: Area, row: u32, place: u32) -> u8
 
 // A row of bilevel pixels, eight to a byte.
 fn put_octets<G: Grid>(grid: &mut G, area: Area, row: u32, buffer: &mut [u8], at: usize) -> usize
-    requires fits { fits (picture grid.old) area ≡ true }
-    requires bilevel { bilevel (picture grid.old).kind ≡ true }
+    requires fits { fits (G.picture grid.old) area ≡ true }
+    requires bilevel { bilevel (G.picture grid.old).kind ≡ true }
     requires row { row < area.height }
-    requires room { at + length (octet_row (rectangle (picture grid.old) area) row) ≤ length buffer.old }
-    ensures put { Put buffer.old at (octet_row (rectangle (picture grid.old) area) row) buffer.new result }
-    ensures kept { picture grid.new ≡ picture grid.old }
-    ensures keeps { keeps.across grid.old grid.new }
+    requires room { at + length (octet_row (rectangle (G.picture grid.old) area) row) ≤ length buffer.old }
+    ensures put { Put buffer.old at (octet_row (rectangle (G.picture grid.old) area) row) buffer.new result }
+    ensures kept { G.picture grid.new ≡ G.picture grid.old }
+    ensures keeps { G.keeps.across grid.old grid.new }
 {
     let mut end = at;
     for place in 0..area.width.div_ceil(8) {
@@ -94,12 +94,12 @@ fn put_octets<G: Grid>(grid: &mut G, area: Area, row: u32, buffer: &mut [u8], at
 }
 
 fn put_row<G: Grid>(grid: &mut G, area: Area, row: u32, buffer: &mut [u8], at: usize) -> usize
-    requires fits { fits (picture grid.old) area ≡ true }
+    requires fits { fits (G.picture grid.old) area ≡ true }
     requires row { row < area.height }
-    requires room { at + length (row_bytes (rectangle (picture grid.old) area) row) ≤ length buffer.old }
-    ensures put { Put buffer.old at (row_bytes (rectangle (picture grid.old) area) row) buffer.new result }
-    ensures kept { picture grid.new ≡ picture grid.old }
-    ensures keeps { keeps.across grid.old grid.new }
+    requires room { at + length (row_bytes (rectangle (G.picture grid.old) area) row) ≤ length buffer.old }
+    ensures put { Put buffer.old at (row_bytes (rectangle (G.picture grid.old) area) row) buffer.new result }
+    ensures kept { G.picture grid.new ≡ G.picture grid.old }
+    ensures keeps { G.keeps.across grid.old grid.new }
 {
     if is_bilevel(grid.kind()) {
         put_octets(grid, area, row, buffer, at)
@@ -109,11 +109,11 @@ fn put_row<G: Grid>(grid: &mut G, area: Area, row: u32, buffer: &mut [u8], at: u
 }
 
 pub fn put_body<G: Grid>(grid: &mut G, area: Area, buffer: &mut [u8], at: usize) -> usize
-    requires fits { fits (picture grid.old) area ≡ true }
-    requires room { at + length (body (rectangle (picture grid.old) area)) ≤ length buffer.old }
-    ensures put { Put buffer.old at (body (rectangle (picture grid.old) area)) buffer.new result }
-    ensures kept { picture grid.new ≡ picture grid.old }
-    ensures keeps { keeps.across grid.old grid.new }
+    requires fits { fits (G.picture grid.old) area ≡ true }
+    requires room { at + length (body (rectangle (G.picture grid.old) area)) ≤ length buffer.old }
+    ensures put { Put buffer.old at (body (rectangle (G.picture grid.old) area)) buffer.new result }
+    ensures kept { G.picture grid.new ≡ G.picture grid.old }
+    ensures keeps { G.keeps.across grid.old grid.new }
 {
     let mut end = at;
     for row in 0..area.height {

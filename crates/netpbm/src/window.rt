@@ -20,10 +20,10 @@ fn has_room(room: usize, len: usize) -> bool
 
 // Prints an area of a grid into the front of a buffer, and answers how many bytes. A refusal leaves the buffer as it was.
 pub fn window<G: Grid>(grid: &mut G, area: Area, buffer: &mut [u8]) -> Result<usize, Fault>
-    ensures answer { result ≡ window_answer (picture grid.old) area (length buffer.old) }
-    ensures buffer { buffer.new ≡ window_buffer (picture grid.old) area buffer.old }
-    ensures kept { picture grid.new ≡ picture grid.old }
-    ensures keeps { keeps.across grid.old grid.new }
+    ensures answer { result ≡ window_answer (G.picture grid.old) area (length buffer.old) }
+    ensures buffer { buffer.new ≡ window_buffer (G.picture grid.old) area buffer.old }
+    ensures kept { G.picture grid.new ≡ G.picture grid.old }
+    ensures keeps { G.keeps.across grid.old grid.new }
 {
     if !fits(grid, area) {
         return Err(Check::Outside.fault());

@@ -8,7 +8,7 @@ use Rattle.tray.specs.Parts.{fits, cut, cut_lists}
 use Rattle.store.specs.Rules.{NoGain, Alone, Gain, Gained, Answered, filled, written}
 use Rattle.octets.proofs.Patches.{length_patched, patched_same}
 use Rattle.octets.proofs.Contents.{in_map, from_map, in_same}
-use Rattle.tray.specs.PartLaws.{fits_start, fits_end, cut_is, cut_none, length_cut, get_or_cut, sector_cut, lists-is, lists-none, cut_more, sector_nil}
+use Rattle.tray.specs.PartLaws.{fits_start, fits_end, cut_is, cut_none, length_cut, get_or_cut, sector_cut, lists_is, lists_none, cut_more, sector_nil}
 
 -- some bytes within the part
 
@@ -65,11 +65,11 @@ part_alone bytes lists from len h = record {
   only = λ s c m.
       ⊎_elim
       (λ (e : fits (length bytes) from len ≡ true).
-      let t = from_map (take (len - 512 * s)) c _ (subst (λ (xs : List (List ℕ)). In c xs) (lists-is bytes from len lists s e) m) in
+      let t = from_map (take (len - 512 * s)) c _ (subst (λ (xs : List (List ℕ)). In c xs) (lists_is bytes from len lists s e) m) in
       t.2 ∙ ap (take (len - 512 * s)) (h.only (from / 512 + s) t.0 t.1) ∙ sym (sector_cut bytes from len s e))
       (λ (e : fits (length bytes) from len ≡ false).
       ⊎_elim (λ (q : c ≡ []). q ∙ sym (ap (λ (xs : List ℕ). sector xs s) (cut_none bytes from len e) ∙ sector_nil s)) absurd
-      (subst (λ (xs : List (List ℕ)). In c xs) (lists-none bytes from len lists s e) m))
+      (subst (λ (xs : List (List ℕ)). In c xs) (lists_none bytes from len lists s e) m))
       (cases_Bool (fits (length bytes) from len));
 }
 
@@ -92,10 +92,10 @@ module _ (bytes : List ℕ) (from len place count : ℕ) (f : fits (length bytes
       let f' : fits (length bytes') from len ≡ true = ap (λ (n : ℕ). fits n from len) e ∙ f in
       record {
         touched = λ s t c m.
-            let u = from_map (take (len - 512 * s)) c _ (subst (λ (xs : List (List ℕ)). In c xs) (lists-is bytes' from len new s f') m) in
+            let u = from_map (take (len - 512 * s)) c _ (subst (λ (xs : List (List ℕ)). In c xs) (lists_is bytes' from len new s f') m) in
             ⊎_elim
             (λ (q : u.0 ≡ sector bytes' (from / 512 + s)). inl (u.2 ∙ ap (take (len - 512 * s)) q ∙ sym (sector_cut bytes' from len s f')))
-            (λ (q : In u.0 (old (from / 512 + s))). inr (subst (λ (xs : List (List ℕ)). In c xs) (sym (lists-is bytes from len old s f)) (in_same _ _ _ u.2 (in_map (take (len - 512 * s)) u.0 _ q))))
+            (λ (q : In u.0 (old (from / 512 + s))). inr (subst (λ (xs : List (List ℕ)). In c xs) (sym (lists_is bytes from len old s f)) (in_same _ _ _ u.2 (in_map (take (len - 512 * s)) u.0 _ q))))
             (gain.touched (from / 512 + s) (below_touched s t) u.0 u.1);
         others = λ s un c m.
             cut_more bytes old new from len s (gain.others (from / 512 + s) (λ t. un (above_touched s t))) c (subst (λ (n : ℕ). In c (cut_lists n new from len s)) e m);

@@ -53,13 +53,13 @@ module _ (bytes : List ℕ) (from len : ℕ) where
       ∙ sym (get_or-take (len - 512 * s) (sector bytes (from / 512 + s)) i 0 k ∙ get_or_sector bytes (from / 512 + s) i 0 m))
 
   module _ (lists : Lists) where
-    pub lists-is : (s : ℕ) → fits (length bytes) from len ≡ true → cut_lists (length bytes) lists from len s ≡ map (take (len - 512 * s)) (lists (from / 512 + s))
+    pub lists_is : (s : ℕ) → fits (length bytes) from len ≡ true → cut_lists (length bytes) lists from len s ≡ map (take (len - 512 * s)) (lists (from / 512 + s))
     unfolding cut_lists
-    lists-is s h = cond-true _ _ _ h
+    lists_is s h = cond-true _ _ _ h
 
-    pub lists-none : (s : ℕ) → fits (length bytes) from len ≡ false → cut_lists (length bytes) lists from len s ≡ [] ∷ []
+    pub lists_none : (s : ℕ) → fits (length bytes) from len ≡ false → cut_lists (length bytes) lists from len s ≡ [] ∷ []
     unfolding cut_lists
-    lists-none s h = cond-false _ _ _ h
+    lists_none s h = cond-false _ _ _ h
 
 pub sector_nil : (s : ℕ) → sector [] s ≡ []
 unfolding sector
@@ -69,9 +69,9 @@ sector_nil s = rw drop-nil
 pub cut_held : (bytes : List ℕ) (lists : Lists) (from len : ℕ) → ((s : ℕ) → In (sector bytes s) (lists s)) → (s : ℕ) → In (sector (cut bytes from len) s) (cut_lists (length bytes) lists from len s)
 cut_held bytes lists from len h s =
     ⊎_elim
-    (λ (e : fits (length bytes) from len ≡ true). subst (λ (xs : List (List ℕ)). In (sector (cut bytes from len) s) xs) (sym (lists-is bytes from len lists s e))
+    (λ (e : fits (length bytes) from len ≡ true). subst (λ (xs : List (List ℕ)). In (sector (cut bytes from len) s) xs) (sym (lists_is bytes from len lists s e))
     (in_same _ _ _ (sector_cut bytes from len s e) (in_map (take (len - 512 * s)) _ _ (h (from / 512 + s)))))
-    (λ (e : fits (length bytes) from len ≡ false). subst (λ (xs : List (List ℕ)). In (sector (cut bytes from len) s) xs) (sym (lists-none bytes from len lists s e))
+    (λ (e : fits (length bytes) from len ≡ false). subst (λ (xs : List (List ℕ)). In (sector (cut bytes from len) s) xs) (sym (lists_none bytes from len lists s e))
     (inl (ap (λ (xs : List ℕ). sector xs s) (cut_none bytes from len e) ∙ sector_nil s)))
     (cases_Bool (fits (length bytes) from len))
 
@@ -81,10 +81,10 @@ pub cut_more : (bytes : List ℕ) (old new : Lists) (from len s : ℕ) → ((d :
 cut_more bytes old new from len s h c m =
     ⊎_elim
     (λ (e : fits (length bytes) from len ≡ true).
-    let t = from_map (take (len - 512 * s)) c _ (subst (λ (xs : List (List ℕ)). In c xs) (lists-is bytes from len new s e) m) in
-    subst (λ (xs : List (List ℕ)). In c xs) (sym (lists-is bytes from len old s e)) (in_same _ _ _ t.2 (in_map (take (len - 512 * s)) t.0 _ (h t.0 t.1))))
+    let t = from_map (take (len - 512 * s)) c _ (subst (λ (xs : List (List ℕ)). In c xs) (lists_is bytes from len new s e) m) in
+    subst (λ (xs : List (List ℕ)). In c xs) (sym (lists_is bytes from len old s e)) (in_same _ _ _ t.2 (in_map (take (len - 512 * s)) t.0 _ (h t.0 t.1))))
     (λ (e : fits (length bytes) from len ≡ false).
-    subst (λ (xs : List (List ℕ)). In c xs) (sym (lists-none bytes from len old s e)) (subst (λ (xs : List (List ℕ)). In c xs) (lists-none bytes from len new s e) m))
+    subst (λ (xs : List (List ℕ)). In c xs) (sym (lists_none bytes from len old s e)) (subst (λ (xs : List (List ℕ)). In c xs) (lists_none bytes from len new s e) m))
     (cases_Bool (fits (length bytes) from len))
 
 cut_short : (bytes : List ℕ) (from len : ℕ) → length bytes < 2 ^ 31 → length (cut bytes from len) < 2 ^ 31

@@ -16,12 +16,12 @@ use raster::grid::*;
 
 // Sample s of the row of a spot where a pixel has one sample, and 0 past the row's end.
 fn grey_sample<G: Grid>(grid: &mut G, view: View, outline: Outline, spot: Spot, s: u32) -> u32
-    requires outline { Outlines outline (picture grid.old) view }
+    requires outline { Outlines outline (G.picture grid.old) view }
     requires single { samples_of outline.kind ≡ 1 }
     requires column { spot.column ≤ 16777216 }
-    ensures value { result ≡ padded_at outline (viewed (picture grid.old) view).at spot s }
-    ensures kept { picture grid.new ≡ picture grid.old }
-    ensures keeps { keeps.across grid.old grid.new }
+    ensures value { result ≡ padded_at outline (viewed (G.picture grid.old) view).at spot s }
+    ensures kept { G.picture grid.new ≡ G.picture grid.old }
+    ensures keeps { G.keeps.across grid.old grid.new }
 {
     if s < outline.cut.wide {
         seen_pixel(grid, view, spot.column + s, spot.row)
@@ -32,13 +32,13 @@ fn grey_sample<G: Grid>(grid: &mut G, view: View, outline: Outline, spot: Spot, 
 
 // The byte at a spot where a pixel has one sample: the first sample in the highest bits.
 fn grey_byte<G: Grid>(grid: &mut G, view: View, outline: Outline, spot: Spot) -> u8
-    requires outline { Outlines outline (picture grid.old) view }
+    requires outline { Outlines outline (G.picture grid.old) view }
     requires single { samples_of outline.kind ≡ 1 }
     requires column { spot.column ≤ 16777216 }
     requires byte { spot.byte < 49152 }
-    ensures value { result ≡ byte_at outline (viewed (picture grid.old) view).at spot }
-    ensures kept { picture grid.new ≡ picture grid.old }
-    ensures keeps { keeps.across grid.old grid.new }
+    ensures value { result ≡ byte_at outline (viewed (G.picture grid.old) view).at spot }
+    ensures kept { G.picture grid.new ≡ G.picture grid.old }
+    ensures keeps { G.keeps.across grid.old grid.new }
 {
     let bits = outline.kind.bits as u32;
     let per = 8 / bits;
@@ -62,13 +62,13 @@ fn sample_of(byte: u32, per: u32, t: u32) -> u32
 
 // The RGB pixel of a spot: `last`, the pixel of the byte before, if the spot is another byte of it, and else asked.
 fn colour<G: Grid>(grid: &mut G, view: View, outline: Outline, spot: Spot, last: Option<u32>) -> u32
-    requires outline { Outlines outline (picture grid.old) view }
+    requires outline { Outlines outline (G.picture grid.old) view }
     requires column { spot.column ≤ 16777216 }
     requires byte { spot.byte < 49152 }
-    requires shared { Shared outline (viewed (picture grid.old) view).at last spot }
-    ensures value { result ≡ pixel_at outline (viewed (picture grid.old) view).at spot (spot.byte / 3) }
-    ensures kept { picture grid.new ≡ picture grid.old }
-    ensures keeps { keeps.across grid.old grid.new }
+    requires shared { Shared outline (viewed (G.picture grid.old) view).at last spot }
+    ensures value { result ≡ pixel_at outline (viewed (G.picture grid.old) view).at spot (spot.byte / 3) }
+    ensures kept { G.picture grid.new ≡ G.picture grid.old }
+    ensures keeps { G.keeps.across grid.old grid.new }
 {
     if spot.byte % 3 > 0 {
         if let Some(pixel) = last {
@@ -93,13 +93,13 @@ pub fn paint<G: Grid>(
     j: u64,
     last: Option<u32>,
 ) -> Painted
-    requires outline { Outlines outline (picture grid.old) view }
+    requires outline { Outlines outline (G.picture grid.old) view }
     requires segment { j / segment_size outline 0 < 1024 }
-    requires known { Known outline (viewed (picture grid.old) view).at last j }
-    ensures byte { result.byte ≡ segments_byte outline (viewed (picture grid.old) view).at j }
-    ensures known { Known outline (viewed (picture grid.old) view).at result.pixel (j + 1) }
-    ensures kept { picture grid.new ≡ picture grid.old }
-    ensures keeps { keeps.across grid.old grid.new }
+    requires known { Known outline (viewed (G.picture grid.old) view).at last j }
+    ensures byte { result.byte ≡ segments_byte outline (viewed (G.picture grid.old) view).at j }
+    ensures known { Known outline (viewed (G.picture grid.old) view).at result.pixel (j + 1) }
+    ensures kept { G.picture grid.new ≡ G.picture grid.old }
+    ensures keeps { G.keeps.across grid.old grid.new }
 {
     let spot = locate(outline, j);
     if samples_of(outline.kind) == 1 {

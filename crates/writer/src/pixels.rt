@@ -25,10 +25,10 @@ pub fn below(view: View, x: u32, y: u32) -> (u32, u32)
 
 // The pixel at column x, row y of what is seen through a view, and 0 beyond its edges, where no grid is asked.
 pub fn seen_pixel<G: Grid>(grid: &mut G, view: View, x: u32, y: u32) -> u32
-    requires { shows (picture grid.old) view ≡ true }
-    ensures value { result ≡ framed (view_width view) (view_height view) (viewed (picture grid.old) view).at x y }
-    ensures kept { picture grid.new ≡ picture grid.old }
-    ensures keeps { keeps.across grid.old grid.new }
+    requires { shows (G.picture grid.old) view ≡ true }
+    ensures value { result ≡ framed (view_width view) (view_height view) (viewed (G.picture grid.old) view).at x y }
+    ensures kept { G.picture grid.new ≡ G.picture grid.old }
+    ensures keeps { G.keeps.across grid.old grid.new }
 {
     if !is_inside(view.size(), x, y) {
         return 0;

@@ -25,13 +25,13 @@ fn draft_byte<G: Grid>(
     i: u64,
     last: Option<u32>,
 ) -> Painted
-    requires outline { Outlines outline (picture grid.old) view }
+    requires outline { Outlines outline (G.picture grid.old) view }
     requires within { i < block_size outline }
-    requires known { Known outline (viewed (picture grid.old) view).at last (i - head_size outline) }
-    ensures byte { result.byte ≡ block_byte outline (viewed (picture grid.old) view).at place i }
-    ensures known { Known outline (viewed (picture grid.old) view).at result.pixel (i + 1 - head_size outline) }
-    ensures kept { picture grid.new ≡ picture grid.old }
-    ensures keeps { keeps.across grid.old grid.new }
+    requires known { Known outline (viewed (G.picture grid.old) view).at last (i - head_size outline) }
+    ensures byte { result.byte ≡ block_byte outline (viewed (G.picture grid.old) view).at place i }
+    ensures known { Known outline (viewed (G.picture grid.old) view).at result.pixel (i + 1 - head_size outline) }
+    ensures kept { G.picture grid.new ≡ G.picture grid.old }
+    ensures keeps { G.keeps.across grid.old grid.new }
 {
     let head = outline.head_size() as u64;
     if i < head {
@@ -54,12 +54,12 @@ fn fill<G: Grid>(
     count: usize,
     buffer: &mut [u8; 512],
 )
-    requires outline { Outlines outline (picture grid.old) view }
+    requires outline { Outlines outline (G.picture grid.old) view }
     requires room { count ≤ 512 }
     requires within { 0 < count → first + count ≤ block_size outline }
-    ensures put { Put buffer.old 0 (tabulate count (λ i. block_byte outline (viewed (picture grid.old) view).at place (first + i))) buffer.new count }
-    ensures kept { picture grid.new ≡ picture grid.old }
-    ensures keeps { keeps.across grid.old grid.new }
+    ensures put { Put buffer.old 0 (tabulate count (λ i. block_byte outline (viewed (G.picture grid.old) view).at place (first + i))) buffer.new count }
+    ensures kept { G.picture grid.new ≡ G.picture grid.old }
+    ensures keeps { G.keeps.across grid.old grid.new }
 {
     let mut last = None;
     for t in 0..count {
@@ -87,10 +87,10 @@ pub fn fill_sector<G: Grid>(
     sector: u32,
     buffer: &mut [u8; 512],
 ) -> usize
-    ensures count { result ≡ length (draft_sector plan (picture grid.old) view place sector) }
-    ensures bytes { buffer.new ≡ patched buffer.old 0 (draft_sector plan (picture grid.old) view place sector) }
-    ensures kept { picture grid.new ≡ picture grid.old }
-    ensures keeps { keeps.across grid.old grid.new }
+    ensures count { result ≡ length (draft_sector plan (G.picture grid.old) view place sector) }
+    ensures bytes { buffer.new ≡ patched buffer.old 0 (draft_sector plan (G.picture grid.old) view place sector) }
+    ensures kept { G.picture grid.new ≡ G.picture grid.old }
+    ensures keeps { G.keeps.across grid.old grid.new }
 {
     if let Err(_) = view.check(grid.size()) {
         return 0;

@@ -17,5 +17,5 @@ returns g c =
     let bs = g.S.Store.seen c.args.store.now in
     let h : 8 ≤ length bs = omega arith in
     let t : ltb (length bs) 8 ≡ false = le-ltb _ _ h in
-    let e = c.order-of.ensures ∙ ap named (c.fill.ensures.got ∙ part_inside bs 0 4 (omega arith)) in
+    let e = c.order_of.ensures ∙ ap named (c.fill.ensures.got ∙ part_inside bs 0 4 (omega arith)) in
     record { value = simp t e; same = c.fill.ensures.same; lists = c.fill.ensures.lists; trails = c.fill.ensures.trails }

@@ -5,12 +5,12 @@ use Rattle.links.specs.Links.{link_checked, directory_checked}
 use Rattle.links.proofs.Following.{followed_err, followed_on}
 use Rattle.links.proofs.walk.follow.Goals as goal
 
-pub returns-in-err-check-link : goal.returns-in-err-check-link
-returns-in-err-check-link g c =
+pub returns-in_err-check_link : goal.returns-in_err-check_link
+returns-in_err-check_link g c =
     let bs = g.S.Store.seen c.args.store.now in
     let a = c.args in
-    let f = err_from_is_err_and c.from-residual.result c.from-residual.ensures.1 in
-    let e = ap (λ n. link_checked n a.met.now a.field a.link) (sym c.length-n.ensures) ∙ sym c.check-link.ensures ∙ c.in-err-check-link.was in
+    let f = err_from_is_err_and c.from_residual.result c.from_residual.ensures.1 in
+    let e = ap (λ n. link_checked n a.met.now a.field a.link) (sym c.length-n.ensures) ∙ sym c.check_link.ensures ∙ c.in_err-check_link.was in
     record {
       value = f.1 ∙ ap Err f.2 ∙ sym (followed_err a.endian bs a.met.now a.field a.link _ e);
       same = refl;
@@ -22,12 +22,12 @@ pub returns : goal.returns
 returns g c =
     let bs = g.S.Store.seen c.args.store.now in
     let a = c.args in
-    let r = c.read-short-entries.ensures in
-    let e = ap (λ n. link_checked n a.met.now a.field a.link) (sym c.length-n.ensures) ∙ sym c.check-link.ensures ∙ c.in-ok-check-link.was in
+    let r = c.read_short-entries.ensures in
+    let e = ap (λ n. link_checked n a.met.now a.field a.link) (sym c.length-n.ensures) ∙ sym c.check_link.ensures ∙ c.in_ok-check_link.was in
     record {
       value =
-          c.check-directory.ensures
-          ∙ ap (λ n. directory_checked n (length a.met.now) a.link c.read-short-entries.result) c.length-n.ensures
+          c.check_directory.ensures
+          ∙ ap (λ n. directory_checked n (length a.met.now) a.link c.read_short-entries.result) c.length-n.ensures
           ∙ ap (directory_checked (length bs) (length a.met.now) a.link) r.value
           ∙ followed_on a.endian bs a.met.now a.field a.link _ e;
       same = r.same;

@@ -19,8 +19,8 @@ note-requires g c =
     let met = take n l.visited in
     let at = l.field in
     let len : length met ≡ n = length-take-le n _ (omega arith) in
-    let same = c.read-long-link.ensures.same ∙ l.invariant.1 in
-    let link : c.read-long-link.result ≡ long o bs at = link_is o bs _ at _ l.invariant.4 l.invariant.1 c.read-long-link.ensures.value in
+    let same = c.read_long-link.ensures.same ∙ l.invariant.1 in
+    let link : c.read_long-link.result ≡ long o bs at = link_is o bs _ at _ l.invariant.4 l.invariant.1 c.read_long-link.ensures.value in
     let q = follow_tells o bs _ l.visited n at _ _ same link c.follow.ensures.value ∙ c.in-Ok.is in
     omega (arith, (followed_ok o bs met at _ _ q).0)
 
@@ -33,8 +33,8 @@ loop-count-preserved g c =
     let met = take n l.visited in
     let at = l.field in
     let len : length met ≡ n = length-take-le n _ (omega arith) in
-    let same = c.read-long-link.ensures.same ∙ l.invariant.1 in
-    let link : c.read-long-link.result ≡ long o bs at = link_is o bs _ at _ l.invariant.4 l.invariant.1 c.read-long-link.ensures.value in
+    let same = c.read_long-link.ensures.same ∙ l.invariant.1 in
+    let link : c.read_long-link.result ≡ long o bs at = link_is o bs _ at _ l.invariant.4 l.invariant.1 c.read_long-link.ensures.value in
     let q = follow_tells o bs _ l.visited n at _ _ same link c.follow.ensures.value ∙ c.in-Ok.is in
     let e : ended met (long o bs at) ≡ false = grind (arith, nat_tests) in
     let ok = followed_ok o bs met at _ _ q in
@@ -45,8 +45,8 @@ loop-count-preserved g c =
       ap length c.note.ensures ∙ length-set l.visited n _ ∙ l.invariant.3,
       ok.1,
       rest_stays l.visited _ _ n _ c.note.ensures l.invariant.5,
-      no_gain_then l.invariant.6 (no_gain_then c.read-long-link.ensures.lists c.follow.ensures.lists),
-      no_gain_then l.invariant.7 (no_gain_then c.read-long-link.ensures.trails c.follow.ensures.trails),
+      no_gain_then l.invariant.6 (no_gain_then c.read_long-link.ensures.lists c.follow.ensures.lists),
+      no_gain_then l.invariant.7 (no_gain_then c.read_long-link.ensures.trails c.follow.ensures.trails),
     )
 
 pub returns-then-link-eq0 : goal.returns-then-link-eq0
@@ -58,16 +58,16 @@ returns-then-link-eq0 g c =
     let met = take n l.visited in
     let at = l.field in
     let len : length met ≡ n = length-take-le n _ (omega arith) in
-    let link : c.read-long-link.result ≡ long o bs at = link_is o bs _ at _ l.invariant.4 l.invariant.1 c.read-long-link.ensures.value in
+    let link : c.read_long-link.result ≡ long o bs at = link_is o bs _ at _ l.invariant.4 l.invariant.1 c.read_long-link.ensures.value in
     let e : ended met (long o bs at) ≡ true = grind (arith, nat_tests) in
     let d = sym (turns_left o bs met at n l.invariant.2 ∙ turn_ends o bs met at (32 - n) e) ∙ l.invariant.0 in
     record {
       value = d;
       few = l.invariant.2;
       rest = l.invariant.5;
-      same = c.read-long-link.ensures.same ∙ l.invariant.1;
-      lists = no_gain_then l.invariant.6 c.read-long-link.ensures.lists;
-      trails = no_gain_then l.invariant.7 c.read-long-link.ensures.trails;
+      same = c.read_long-link.ensures.same ∙ l.invariant.1;
+      lists = no_gain_then l.invariant.6 c.read_long-link.ensures.lists;
+      trails = no_gain_then l.invariant.7 c.read_long-link.ensures.trails;
     }
 
 pub returns-in-Err : goal.returns-in-Err
@@ -79,8 +79,8 @@ returns-in-Err g c =
     let met = take n l.visited in
     let at = l.field in
     let len : length met ≡ n = length-take-le n _ (omega arith) in
-    let same = c.read-long-link.ensures.same ∙ l.invariant.1 in
-    let link : c.read-long-link.result ≡ long o bs at = link_is o bs _ at _ l.invariant.4 l.invariant.1 c.read-long-link.ensures.value in
+    let same = c.read_long-link.ensures.same ∙ l.invariant.1 in
+    let link : c.read_long-link.result ≡ long o bs at = link_is o bs _ at _ l.invariant.4 l.invariant.1 c.read_long-link.ensures.value in
     let q = follow_tells o bs _ l.visited n at _ _ same link c.follow.ensures.value ∙ c.in-Err.is in
     let e : ended met (long o bs at) ≡ false = grind (arith, nat_tests) in
     let d = sym (turns_left o bs met at n l.invariant.2 ∙ turn_fails o bs met at (32 - n) _ e q) ∙ l.invariant.0 in
@@ -89,6 +89,6 @@ returns-in-Err g c =
       few = tt;
       rest = tt;
       same = c.follow.ensures.same ∙ same;
-      lists = no_gain_then l.invariant.6 (no_gain_then c.read-long-link.ensures.lists c.follow.ensures.lists);
-      trails = no_gain_then l.invariant.7 (no_gain_then c.read-long-link.ensures.trails c.follow.ensures.trails);
+      lists = no_gain_then l.invariant.6 (no_gain_then c.read_long-link.ensures.lists c.follow.ensures.lists);
+      trails = no_gain_then l.invariant.7 (no_gain_then c.read_long-link.ensures.trails c.follow.ensures.trails);
     }

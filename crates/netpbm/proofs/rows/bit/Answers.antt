@@ -13,8 +13,8 @@ grey-requires g c =
       sample = h.below;
     }
 
-pub overflow-sub-result : goal.overflow-sub-result
-overflow-sub-result g c =
+pub overflow_sub-result : goal.overflow_sub-result
+overflow_sub-result g c =
     let p = g.G.Grid.picture c.args.grid.now in
     let h = shown p p c.args.area _ _ _ _ (g.G.Grid.sound c.args.grid.now) c.kind-kind.ensures refl c.sample.ensures.value in
     let t = ap bilevel h.kind ∙ c.requires.bilevel in

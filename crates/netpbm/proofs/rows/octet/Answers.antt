@@ -11,14 +11,14 @@ use Rattle.netpbm.proofs.rows.octet.Goals as goal
 pub loop-i-init : goal.loop-i-init
 loop-i-init g c = (refl, g.G.Grid.keeps.none _, packed_none _)
 
-pub overflow-mul-value : goal.overflow-mul-value
-overflow-mul-value g c =
+pub overflow_mul-value : goal.overflow_mul-value
+overflow_mul-value g c =
     let p = rectangle (g.G.Grid.picture c.args.grid.now) c.args.area in
     let small = packed_below 2 c.loop-i.i (λ i. black p c.args.row (8 * c.args.place + i)) (λ i _. omega (arith, black_bit p c.args.row (8 * c.args.place + i))) in
     omega (arith, c.loop-i.invariant.2, small, pow_mono {i = c.loop-i.i} {j = 7} (omega arith))
 
-pub overflow-add-value : goal.overflow-add-value
-overflow-add-value g c =
+pub overflow_add-value : goal.overflow_add-value
+overflow_add-value g c =
     let p = rectangle (g.G.Grid.picture c.args.grid.now) c.args.area in
     let small = packed_below 2 c.loop-i.i (λ i. black p c.args.row (8 * c.args.place + i)) (λ i _. omega (arith, black_bit p c.args.row (8 * c.args.place + i))) in
     let one = black_bit (rectangle (g.G.Grid.picture c.loop-i.grid) c.args.area) c.args.row (8 * c.args.place + c.loop-i.i) in

@@ -9,8 +9,8 @@ use Rattle.netpbm.proofs.rows.put_octets.Goals as goal
 pub loop-place-init : goal.loop-place-init
 loop-place-init g c = (refl, g.G.Grid.keeps.none _, put_none _ _ (omega arith))
 
-pub put-byte-end-requires : goal.put-byte-end-requires
-put-byte-end-requires g c =
+pub put_byte-end-requires : goal.put_byte-end-requires
+put_byte-end-requires g c =
     let f : ℕ → ℕ = octet (rectangle (g.G.Grid.picture c.args.grid.now) c.args.area) c.args.row in
     omega (
       arith,
@@ -28,5 +28,5 @@ loop-place-preserved g c =
       c.octet-b.ensures.kept ∙ c.loop-place.invariant.0,
       g.G.Grid.keeps.both c.loop-place.invariant.1 c.octet-b.ensures.keeps,
       put_as (sym (map-range_with_len_more f 0 c.loop-place.place c.loop-place.place (omega arith)))
-          (put_then c.loop-place.invariant.2 (put_as (ap (λ b. b ∷ []) same) c.put-byte-end.ensures)),
+          (put_then c.loop-place.invariant.2 (put_as (ap (λ b. b ∷ []) same) c.put_byte-end.ensures)),
     )

@@ -15,9 +15,9 @@ loop-column-init g c = (refl, g.G.Grid.keeps.none _, put_none _ _ (omega arith))
 bytes : Picture → Area → ℕ → ℕ → List ℕ
 bytes p a y x = pixel_bytes p.kind ((rectangle p a).at x y)
 
-pub put-pixel-end-requires : goal.put-pixel-end-requires
+pub put_pixel-end-requires : goal.put_pixel-end-requires
 unfolding bytes
-put-pixel-end-requires g c =
+put_pixel-end-requires g c =
     let p = g.G.Grid.picture c.args.grid.now in
     let h = shown p _ c.args.area _ _ _ _ (g.G.Grid.sound c.args.grid.now) c.kind-kind.ensures c.loop-column.invariant.0 c.sample-v.ensures.value in
     let room = run_room (bytes p c.args.area c.args.row) c.args.area.width c.loop-column.column c.loop-column-test.true in
@@ -35,5 +35,5 @@ loop-column-preserved g c =
       c.sample-v.ensures.kept ∙ c.loop-column.invariant.0,
       g.G.Grid.keeps.both c.loop-column.invariant.1 c.sample-v.ensures.keeps,
       put_as (run_more (bytes p c.args.area c.args.row) c.loop-column.column)
-          (put_then c.loop-column.invariant.2 (put_as (shown_bytes h) c.put-pixel-end.ensures)),
+          (put_then c.loop-column.invariant.2 (put_as (shown_bytes h) c.put_pixel-end.ensures)),
     )

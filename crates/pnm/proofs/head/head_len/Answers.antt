@@ -4,9 +4,9 @@ use Rattle.pnm.specs.Netpbm.{bilevel, numeral, largest}
 use Rattle.pnm.proofs.Heads.{length_head, length_numeral}
 use Rattle.pnm.proofs.head.head_len.Goals as goal
 
-pub returns-then-is-bilevel : goal.returns-then-is-bilevel
-returns-then-is-bilevel c =
-    let none = ap length (cond-true (bilevel c.args.kind) [] (numeral (largest c.args.kind) 10) (sym c.if-is-bilevel.ensures)) in
+pub returns-then-is_bilevel : goal.returns-then-is_bilevel
+returns-then-is_bilevel c =
+    let none = ap length (cond-true (bilevel c.args.kind) [] (numeral (largest c.args.kind) 10) (sym c.if-is_bilevel.ensures)) in
     let whole = length_head c.args.size.width c.args.size.height c.args.kind in
     let w = length_numeral c.args.size.width 32 in
     let h = length_numeral c.args.size.height 10 in
@@ -14,10 +14,10 @@ returns-then-is-bilevel c =
 
 pub returns : goal.returns
 returns c =
-    let some = ap length (cond-false (bilevel c.args.kind) [] (numeral (largest c.args.kind) 10) (sym c.if-is-bilevel.ensures)) in
+    let some = ap length (cond-false (bilevel c.args.kind) [] (numeral (largest c.args.kind) 10) (sym c.if-is_bilevel.ensures)) in
     let whole = length_head c.args.size.width c.args.size.height c.args.kind in
     let w = length_numeral c.args.size.width 32 in
     let h = length_numeral c.args.size.height 10 in
     let d = length_numeral (largest c.args.kind) 10 in
-    let v = c.decimal-len-3.ensures.len ∙ ap (λ n. length (decimal n)) c.largest.ensures.value in
+    let v = c.decimal_len-3.ensures.len ∙ ap (λ n. length (decimal n)) c.largest.ensures.value in
     record { len = omega arith; short = omega arith }

@@ -7,27 +7,27 @@ use Rattle.octets.proofs.Puts.{put_then}
 use Rattle.pnm.proofs.Decimals.{length_decimal_step}
 use Rattle.pnm.proofs.output.+put_decimal.Goals as goal
 
-pub put-byte-requires : goal.put-byte-requires
-put-byte-requires t c =
+pub put_byte-requires : goal.put_byte-requires
+put_byte-requires t c =
     let small : c.args.n < 2 ^ 64 = search rules in omega (arith, decimal_nonempty c.args.n small)
 
-pub returns-then-is-digit : goal.returns-then-is-digit
-returns-then-is-digit t c = rw (decimal_digit c.args.n (ltb-true _ _ (sym c.if-is-digit.ensures))) c.put-byte.ensures
+pub returns-then-is_digit : goal.returns-then-is_digit
+returns-then-is_digit t c = rw (decimal_digit c.args.n (ltb-true _ _ (sym c.if-is_digit.ensures))) c.put_byte.ensures
 
-pub put-decimal-last-requires : goal.put-decimal-last-requires
-put-decimal-last-requires t c =
+pub put_decimal-last-requires : goal.put_decimal-last-requires
+put_decimal-last-requires t c =
     let small : c.args.n < 2 ^ 64 = search rules in
-    let e = length_decimal_step c.args.n (ltb-false _ _ (sym c.if-is-digit.ensures)) small in
-    let more = ltb-false _ _ (sym c.if-is-digit.ensures) in
+    let e = length_decimal_step c.args.n (ltb-false _ _ (sym c.if-is_digit.ensures)) small in
+    let more = ltb-false _ _ (sym c.if-is_digit.ensures) in
     (omega (arith, more), omega arith)
 
-pub put-byte-requires-2 : goal.put-byte-requires-2
-put-byte-requires-2 t c =
+pub put_byte-requires-2 : goal.put_byte-requires-2
+put_byte-requires-2 t c =
     let small : c.args.n < 2 ^ 64 = search rules in
-    let e = length_decimal_step c.args.n (ltb-false _ _ (sym c.if-is-digit.ensures)) small in
+    let e = length_decimal_step c.args.n (ltb-false _ _ (sym c.if-is_digit.ensures)) small in
     omega arith
 
 pub returns : goal.returns
 returns t c =
     let small : c.args.n < 2 ^ 64 = search rules in
-    rw (decimal_step c.args.n (ltb-false _ _ (sym c.if-is-digit.ensures)) small) (put_then c.put-decimal-last.ensures c.put-byte-2.ensures)
+    rw (decimal_step c.args.n (ltb-false _ _ (sym c.if-is_digit.ensures)) small) (put_then c.put_decimal-last.ensures c.put_byte-2.ensures)

@@ -3,8 +3,8 @@ use Rattle.std.proofs.lemmas.Fmt.{decimal_digit, length-decimal-le}
 use Rattle.pnm.proofs.Decimals.{length_decimal_step}
 use Rattle.pnm.proofs.output.decimal_len.Goals as goal
 
-pub overflow-add-len : goal.overflow-add-len
-overflow-add-len c =
+pub overflow_add-len : goal.overflow_add-len
+overflow_add-len c =
     let small : c.args.n < 2 ^ 32 = search rules in
     omega (arith, length-decimal-le 10 c.args.n (omega arith) (omega arith) (omega arith), c.loop-rest.invariant.1)
 

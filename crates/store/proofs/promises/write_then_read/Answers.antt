@@ -4,14 +4,14 @@ use Rattle.store.proofs.Changes.{refused}
 use Rattle.store.proofs.Power.{found_written, found_then, echoed_after, echoed_refused}
 use Rattle.store.proofs.promises.write_then_read.Goals as goal
 
-pub returns-in-err-write : goal.returns-in-err-write
-returns-in-err-write g c =
-    let p = err_from_is_err_and c.from-residual.result c.from-residual.ensures.1 in
-    let f = c.in-err-write.ensures in
+pub returns-in_err-write : goal.returns-in_err-write
+returns-in_err-write g c =
+    let p = err_from_is_err_and c.from_residual.result c.from_residual.ensures.1 in
+    let f = c.in_err-write.ensures in
     let q = c.write.ensures in
     record {
-      answer = λ _. refused c.from-residual.result p.0 _ c.args.place _ p.1 f.answer.0 (p.2 ∙ f.answer.1);
-      echoed = λ _. echoed_refused c.from-residual.result p.0 _ _ c.args.place _ _ p.1 f.put;
+      answer = λ _. refused c.from_residual.result p.0 _ c.args.place _ p.1 f.answer.0 (p.2 ∙ f.answer.1);
+      echoed = λ _. echoed_refused c.from_residual.result p.0 _ _ c.args.place _ _ p.1 f.put;
       unequal = λ un. absurd (omega (arith, un));
       found = found_written c.write.result _ _ _ _ c.args.place c.args.bytes.now q.answer q.put q.lists;
     }

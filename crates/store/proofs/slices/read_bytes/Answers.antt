@@ -4,8 +4,8 @@ use Rattle.store.specs.Lent.{counted}
 use Rattle.store.proofs.Lent.{length_counted, counted_part}
 use Rattle.store.proofs.slices.read_bytes.Goals as goal
 
-pub slice-bounds-copy-from-slice-end : goal.slice-bounds-copy-from-slice-end
-slice-bounds-copy-from-slice-end c =
+pub slice_bounds-copy_from_slice-end : goal.slice_bounds-copy_from_slice-end
+slice_bounds-copy_from_slice-end c =
     let n = length_counted c.args.bytes.now in
     let h = leb-true _ _ (sym c.within.ensures ∙ c.if-not-within.false) in
     search rules
