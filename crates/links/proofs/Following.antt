@@ -22,7 +22,7 @@ unfolding headed
 headed_long bs o e = ltb-false (length bs) 8 (passed (ltb (length bs) 8) (bare Short) (named (take 4 bs)) o e).0
 
 -- what `contains` answers
-pub has_is : (xs : List ℕ) (x : ℕ) (r : Bool) → IsAnyAnswer (λ y t. Decides t (y ≡ x)) xs r → r ≡ has xs x
+pub has_is : (xs : List ℕ) (x : ℕ) (r : Bool) → IsAnyAnswer (λ y t. eqb y x ≡ t) xs r → r ≡ has xs x
 has_is xs x r h =
     same_from_decides r (has xs x) (contains_decides eqb Decides-eqb xs x r h)
     (Decides-by_or (λ y. eqb y x) (λ y. y ≡ x) (λ ys. has ys x) (λ y. Decides-eqb y x) refl (λ _ _. refl) xs)

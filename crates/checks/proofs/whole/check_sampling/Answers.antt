@@ -11,9 +11,9 @@ pub returns-then-sampling : goal.returns-then-sampling
 unfolding sampled
 returns-then-sampling c = grind (arith, nat_tests)
 
-pub returns-then-not-is-rgb : goal.returns-then-not-is-rgb
+pub returns-then-not-is_rgb : goal.returns-then-not-is_rgb
 unfolding sampled
-returns-then-not-is-rgb c = grind (arith, nat_tests)
+returns-then-not-is_rgb c = grind (arith, nat_tests)
 
 pub returns : goal.returns
 unfolding sampled

@@ -2,13 +2,13 @@ use Rattle.std.proofs.Common.{arith}
 use Rattle.pages.specs.Pages.{listing}
 use Rattle.checks.proofs.whole.find_listing.Goals as goal
 
-pub returns-in-err-offsets : goal.returns-in-err-offsets
+pub returns-in_err-offsets : goal.returns-in_err-offsets
 unfolding listing
-returns-in-err-offsets c = grind arith
+returns-in_err-offsets c = grind arith
 
-pub returns-in-err-counts : goal.returns-in-err-counts
+pub returns-in_err-counts : goal.returns-in_err-counts
 unfolding listing
-returns-in-err-counts c = grind arith
+returns-in_err-counts c = grind arith
 
 pub returns : goal.returns
 unfolding listing

@@ -16,6 +16,6 @@ returns g c =
     let count = c.long-count.ensures ∙ long_read o bs b place got 4 (omega arith) in
     let last = c.long-last.ensures ∙ long_read o bs b place got 8 (omega arith) in
     record {
-      value = entry_made o bs place _ _ _ c.long-last.result c.size-of.result _ tag kind count last c.size-of.ensures.0 c.home-of-values.ensures;
+      value = entry_made o bs place _ _ _ c.long-last.result c.size_of.result _ tag kind count last c.size_of.ensures.0 c.home_of-values.ensures;
       looked = record { same = c.fill.ensures.same; lists = c.fill.ensures.lists; trails = c.fill.ensures.trails };
     }

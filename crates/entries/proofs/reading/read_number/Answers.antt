@@ -9,7 +9,7 @@ pub returns-then-place : goal.returns-then-place
 returns-then-place g c =
     let bs = g.S.Store.seen c.args.store.now in
     let n : length bs < 2 ^ 31 = g.S.Store.laws.short c.args.store.now in
-    let h : length bs < place_of c.args.numbers c.args.k = omega (arith, n, c.place-of-place.ensures, c.if-place.true) in
+    let h : length bs < place_of c.args.numbers c.args.k = omega (arith, n, c.place_of-place.ensures, c.if-place.true) in
     record {
       value = sym (number_past c.args.endian bs c.args.numbers c.args.k h);
       looked = looked_none g.S.Store.seen g.S.Store.may g.S.Store.trail c.args.store.now;
@@ -18,17 +18,17 @@ returns-then-place g c =
 pub returns-in-Short : goal.returns-in-Short
 returns-in-Short g c =
     let bs = g.S.Store.seen c.args.store.now in
-    let r = c.read-short.ensures in
+    let r = c.read_short.ensures in
     record {
-      value = r.value ∙ number_by c.args.endian bs c.args.numbers c.args.k Short _ c.in-Short.is c.place-of-place.ensures;
+      value = r.value ∙ number_by c.args.endian bs c.args.numbers c.args.k Short _ c.in-Short.is c.place_of-place.ensures;
       looked = record { same = r.same; lists = r.lists; trails = r.trails };
     }
 
 pub returns-in-Long : goal.returns-in-Long
 returns-in-Long g c =
     let bs = g.S.Store.seen c.args.store.now in
-    let r = c.read-long.ensures in
+    let r = c.read_long.ensures in
     record {
-      value = r.value ∙ number_by c.args.endian bs c.args.numbers c.args.k Long _ c.in-Long.is c.place-of-place.ensures;
+      value = r.value ∙ number_by c.args.endian bs c.args.numbers c.args.k Long _ c.in-Long.is c.place_of-place.ensures;
       looked = record { same = r.same; lists = r.lists; trails = r.trails };
     }

@@ -4,4 +4,4 @@ use Rattle.pages.proofs.layout.Layout.needed.Goals as goal
 
 pub returns : goal.returns
 unfolding needed
-returns c = c.saturating-mul.ensures ∙ (λ i. min (c.rows-rows.ensures i * c.row-bytes.ensures i) (2 ^ 64 - 1))
+returns c = c.saturating_mul.ensures ∙ (λ i. min (c.rows-rows.ensures i * c.row_bytes.ensures i) (2 ^ 64 - 1))
