@@ -7,17 +7,17 @@ use Rattle.pages.specs.Pages.{offsets_tag}
 use Rattle.opening.proofs.Filling.{segment_by}
 use Rattle.opening.proofs.page.check_segment.Goals as goal
 
-pub returns-then-is-lacking : goal.returns-then-is-lacking
-returns-then-is-lacking g c =
+pub returns-then-is_lacking : goal.returns-then-is_lacking
+returns-then-is_lacking g c =
     let bs = g.S.Store.seen c.args.store.now in
     let l = c.args.layout in
-    let o = c.read-number-offset.ensures in
-    let n = c.read-number-count.ensures in
+    let o = c.read_number-offset.ensures in
+    let n = c.read_number-count.ensures in
     let count = n.value ∙ ap (λ xs. number_at l.directory.endian xs l.counts c.args.k) o.looked.same in
-    let s = segment_by bs l c.args.k _ _ _ _ _ c.length-n.ensures o.value count c.read-number-count.type-inv c.needed.ensures c.is-lacking.ensures in
-    let f = c.fault-at.ensures ∙ ap (λ t. fault Segment l.directory.page t c.read-number-offset.result) c.offsets-tag-tag.ensures in
+    let s = segment_by bs l c.args.k _ _ _ _ _ c.length-n.ensures o.value count c.read_number-count.type_inv c.needed.ensures c.is_lacking.ensures in
+    let f = c.fault_at.ensures ∙ ap (λ t. fault Segment l.directory.page t c.read_number-offset.result) c.offsets_tag-tag.ensures in
     record {
-      value = ap Err f ∙ sym (s ∙ ap (λ b. refused b (fault Segment l.directory.page (offsets_tag l.cut.tiled) c.read-number-offset.result) (Ok tt)) c.if-is-lacking.true);
+      value = ap Err f ∙ sym (s ∙ ap (λ b. refused b (fault Segment l.directory.page (offsets_tag l.cut.tiled) c.read_number-offset.result) (Ok tt)) c.if-is_lacking.true);
       looked = looked_on _ _ _ _ _ _ o.looked n.looked;
     }
 
@@ -25,11 +25,11 @@ pub returns : goal.returns
 returns g c =
     let bs = g.S.Store.seen c.args.store.now in
     let l = c.args.layout in
-    let o = c.read-number-offset.ensures in
-    let n = c.read-number-count.ensures in
+    let o = c.read_number-offset.ensures in
+    let n = c.read_number-count.ensures in
     let count = n.value ∙ ap (λ xs. number_at l.directory.endian xs l.counts c.args.k) o.looked.same in
-    let s = segment_by bs l c.args.k _ _ _ _ _ c.length-n.ensures o.value count c.read-number-count.type-inv c.needed.ensures c.is-lacking.ensures in
+    let s = segment_by bs l c.args.k _ _ _ _ _ c.length-n.ensures o.value count c.read_number-count.type_inv c.needed.ensures c.is_lacking.ensures in
     record {
-      value = sym (s ∙ ap (λ b. refused b (fault Segment l.directory.page (offsets_tag l.cut.tiled) c.read-number-offset.result) (Ok tt)) c.if-is-lacking.false);
+      value = sym (s ∙ ap (λ b. refused b (fault Segment l.directory.page (offsets_tag l.cut.tiled) c.read_number-offset.result) (Ok tt)) c.if-is_lacking.false);
       looked = looked_on _ _ _ _ _ _ o.looked n.looked;
     }

@@ -11,19 +11,19 @@ loop-k-init g c = (
   looked_none g.S.Store.seen g.S.Store.may g.S.Store.trail c.args.store.now,
 )
 
-pub returns-in-err-check-segment : goal.returns-in-err-check-segment
-returns-in-err-check-segment g c =
-    let t = fill_turn (g.S.Store.seen c.args.store.now) _ c.args.layout c.args.layout.offsets.count c.loop-k.k _ c.loop-k-test.true c.loop-k.invariant.1.same c.check-segment.ensures.value in
-    let p = err_from_is_err_and c.from-residual.result c.from-residual.ensures.1 in
+pub returns-in_err-check_segment : goal.returns-in_err-check_segment
+returns-in_err-check_segment g c =
+    let t = fill_turn (g.S.Store.seen c.args.store.now) _ c.args.layout c.args.layout.offsets.count c.loop-k.k _ c.loop-k-test.true c.loop-k.invariant.1.same c.check_segment.ensures.value in
+    let p = err_from_is_err_and c.from_residual.result c.from_residual.ensures.1 in
     record {
-      value = p.1 ∙ ap Err p.2 ∙ sym (t ∙ then_err _ _ _ c.in-err-check-segment.was) ∙ c.loop-k.invariant.0;
-      looked = looked_on _ _ _ _ _ _ c.loop-k.invariant.1 c.check-segment.ensures.looked;
+      value = p.1 ∙ ap Err p.2 ∙ sym (t ∙ then_err _ _ _ c.in_err-check_segment.was) ∙ c.loop-k.invariant.0;
+      looked = looked_on _ _ _ _ _ _ c.loop-k.invariant.1 c.check_segment.ensures.looked;
     }
 
 pub loop-k-preserved : goal.loop-k-preserved
 loop-k-preserved g c =
-    let t = fill_turn (g.S.Store.seen c.args.store.now) _ c.args.layout c.args.layout.offsets.count c.loop-k.k _ c.loop-k-test.true c.loop-k.invariant.1.same c.check-segment.ensures.value in
-    (sym (t ∙ then_ok _ _ _ c.in-ok-check-segment.was) ∙ c.loop-k.invariant.0, looked_on _ _ _ _ _ _ c.loop-k.invariant.1 c.check-segment.ensures.looked)
+    let t = fill_turn (g.S.Store.seen c.args.store.now) _ c.args.layout c.args.layout.offsets.count c.loop-k.k _ c.loop-k-test.true c.loop-k.invariant.1.same c.check_segment.ensures.value in
+    (sym (t ∙ then_ok _ _ _ c.in_ok-check_segment.was) ∙ c.loop-k.invariant.0, looked_on _ _ _ _ _ _ c.loop-k.invariant.1 c.check_segment.ensures.looked)
 
 pub returns : goal.returns
 returns g c = record {

@@ -6,34 +6,34 @@ use Rattle.pages.specs.Opening.{page_of}
 use Rattle.pages.proofs.Stages.{open_1, open-2, open-3, place_stands, entries_read}
 use Rattle.opening.proofs.page.open_page.Goals as goal
 
-pub returns-in-err-directories : goal.returns-in-err-directories
-returns-in-err-directories g c =
+pub returns-in_err-directories : goal.returns-in_err-directories
+returns-in_err-directories g c =
     let bs = g.S.Store.seen c.args.store.now in
     let w = c.walk.ensures in
-    let a = sym w.value ∙ c.in-err-directories.was in
-    let f = err_from_is_err_and c.from-residual.result c.from-residual.ensures.1 in
+    let a = sym w.value ∙ c.in_err-directories.was in
+    let f = err_from_is_err_and c.from_residual.result c.from_residual.ensures.1 in
     record { value = f.1 ∙ ap Err f.2 ∙ sym (open_1 bs c.args.page _ a); same = w.same; lists = w.lists; trails = w.trails }
 
-pub returns-in-err-place : goal.returns-in-err-place
-returns-in-err-place g c =
+pub returns-in_err-place : goal.returns-in_err-place
+returns-in_err-place g c =
     let bs = g.S.Store.seen c.args.store.now in
     let w = c.walk.ensures in
-    let ds = c.in-ok-directories.directories in
-    let a = sym w.value ∙ c.in-ok-directories.was in
-    let b = sym c.place.ensures ∙ c.in-err-place.was in
-    let f = err_from_is_err_and c.from-residual-in-err-place.result c.from-residual-in-err-place.ensures.1 in
+    let ds = c.in_ok-directories.directories in
+    let a = sym w.value ∙ c.in_ok-directories.was in
+    let b = sym c.place.ensures ∙ c.in_err-place.was in
+    let f = err_from_is_err_and c.from_residual-in_err-place.result c.from_residual-in_err-place.ensures.1 in
     record { value = f.1 ∙ ap Err f.2 ∙ sym (open-2 bs c.args.page ds a _ b); same = w.same; lists = w.lists; trails = w.trails }
 
-pub check-page-requires : goal.check-page-requires
-check-page-requires g c =
+pub check_page-requires : goal.check_page-requires
+check_page-requires g c =
     let bs = g.S.Store.seen c.args.store.now in
     let w = c.walk.ensures in
-    let ds = c.in-ok-directories.directories in
-    let place = c.in-ok-place.place in
-    let a = sym w.value ∙ c.in-ok-directories.was in
-    let b = sym c.place.ensures ∙ c.in-ok-place.was in
-    let r = c.read-short-entries.ensures in
-    let n = c.read-short-entries.result in
+    let ds = c.in_ok-directories.directories in
+    let place = c.in_ok-place.place in
+    let a = sym w.value ∙ c.in_ok-directories.was in
+    let b = sym c.place.ensures ∙ c.in_ok-place.was in
+    let r = c.read_short-entries.ensures in
+    let n = c.read_short-entries.result in
     let e = entries_read ds.endian bs place n (place_stands bs ds c.args.page place a b) (r.value ∙ ap (λ xs. short_at ds.endian xs place) w.same) in
     record { inside = subst (λ xs. place + 2 + 12 * n ≤ length xs) (sym (r.same ∙ w.same)) e.1 }
 
@@ -41,15 +41,15 @@ pub returns : goal.returns
 returns g c =
     let bs = g.S.Store.seen c.args.store.now in
     let w = c.walk.ensures in
-    let ds = c.in-ok-directories.directories in
+    let ds = c.in_ok-directories.directories in
     let page = c.args.page in
-    let place = c.in-ok-place.place in
-    let a = sym w.value ∙ c.in-ok-directories.was in
-    let b = sym c.place.ensures ∙ c.in-ok-place.was in
-    let r = c.read-short-entries.ensures in
-    let n = c.read-short-entries.result in
+    let place = c.in_ok-place.place in
+    let a = sym w.value ∙ c.in_ok-directories.was in
+    let b = sym c.place.ensures ∙ c.in_ok-place.was in
+    let r = c.read_short-entries.ensures in
+    let n = c.read_short-entries.result in
     let e = entries_read ds.endian bs place n (place_stands bs ds page place a b) (r.value ∙ ap (λ xs. short_at ds.endian xs place) w.same) in
-    let p = c.check-page.ensures in
+    let p = c.check_page.ensures in
     record {
       value =
           p.value

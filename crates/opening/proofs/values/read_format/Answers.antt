@@ -9,10 +9,10 @@ unfolding format_of
 returns g c =
     let o = c.args.endian in
     let fs = c.args.fields in
-    let a = c.read-or.ensures in
-    let b = c.read-or-2.ensures in
-    let d = c.read-or-3.ensures in
-    let e = c.read-or-4.ensures in
+    let a = c.read_or.ensures in
+    let b = c.read_or-2.ensures in
+    let d = c.read_or-3.ensures in
+    let e = c.read_or-4.ensures in
     let l2 = looked_on _ _ _ _ _ _ a.looked b.looked in
     let l3 = looked_on _ _ _ _ _ _ l2 d.looked in
     let fill = b.value ∙ ap (λ xs. nth_or o xs 1 0 fs.fill) a.looked.same in

@@ -7,9 +7,9 @@ pub returns : goal.returns
 returns g c =
     let o = c.args.endian in
     let fs = c.args.fields in
-    let a = c.read-format.ensures in
-    let b = c.read-sampling.ensures in
-    let d = c.read-sides.ensures in
+    let a = c.read_format.ensures in
+    let b = c.read_sampling.ensures in
+    let d = c.read_sides.ensures in
     let l2 = looked_on _ _ _ _ _ _ a.looked b.looked in
     let sampling = b.value ∙ ap (λ xs. sampling_of o xs fs) a.looked.same in
     let sides = d.value ∙ ap (λ xs. sides_of o xs fs) l2.same in
