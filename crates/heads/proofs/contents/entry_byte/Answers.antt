@@ -8,17 +8,17 @@ returns-then-b-lt2 c = c.number_byte.ensures ∙ tag_byte c.args.endian c.args.t
 
 pub returns-then-b-lt4 : goal.returns-then-b-lt4
 returns-then-b-lt4 c =
-    c.number-byte-then-b-lt4.ensures
+    c.number_byte-then-b-lt4.ensures
     ∙ ap (λ k. byte_of c.args.endian 2 k (c.args.b - 2)) c.kind.ensures
     ∙ kind_byte c.args.endian c.args.tag c.args.content c.args.b c.if-b-lt2.false c.if-b-lt4.true
 
 pub returns-then-b-lt8 : goal.returns-then-b-lt8
 returns-then-b-lt8 c =
-    c.number-byte-then-b-lt8.ensures
+    c.number_byte-then-b-lt8.ensures
     ∙ ap (λ k. byte_of c.args.endian 4 k (c.args.b - 4)) c.count.ensures
     ∙ count_byte c.args.endian c.args.tag c.args.content c.args.b c.if-b-lt4.false c.if-b-lt8.true
 
 pub returns-else-b-lt8 : goal.returns-else-b-lt8
 returns-else-b-lt8 c =
-    c.last-byte.ensures
+    c.last_byte.ensures
     ∙ last_byte c.args.endian c.args.tag c.args.content c.args.b c.if-b-lt8.false

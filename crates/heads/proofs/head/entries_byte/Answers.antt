@@ -11,7 +11,7 @@ pub returns : goal.returns
 returns c =
     let q = c.args.outline in
     let j = c.args.j in
-    c.entry-byte.ensures
-    ∙ ap₂ (λ n (x : Content). byte (entry_of q.endian n x) (j % 12)) c.number.ensures c.content-of.ensures
-    ∙ ap (λ (t : Tag). byte (entry_in q c.args.place t) (j % 12)) c.tag-of-tag.ensures
+    c.entry_byte.ensures
+    ∙ ap₂ (λ n (x : Content). byte (entry_of q.endian n x) (j % 12)) c.number.ensures c.content_of.ensures
+    ∙ ap (λ (t : Tag). byte (entry_in q c.args.place t) (j % 12)) c.tag_of-tag.ensures
     ∙ sym (entries_byte q c.args.place (some_segments q c.requires.proper) q.cut.tiled refl j c.requires.within)

@@ -9,22 +9,22 @@ pub returns-then-i-lt2 : goal.returns-then-i-lt2
 returns-then-i-lt2 c =
     let q = c.args.outline in
     c.number_byte.ensures
-    ∙ ap (λ n. byte_of q.endian 2 n c.args.i) c.tag-count.ensures
+    ∙ ap (λ n. byte_of q.endian 2 n c.args.i) c.tag_count.ensures
     ∙ first_byte q c.args.place q.cut.tiled c.args.i c.if-i-lt2.true
 
 pub returns-then-i-end : goal.returns-then-i-end
 returns-then-i-end c =
     let q = c.args.outline in
     c.entries_byte.ensures
-    ∙ middle_byte q c.args.place q.cut.tiled c.args.i c.if-i-lt2.false (omega (arith, c.if-i-end.true, c.bits-at-end.ensures))
+    ∙ middle_byte q c.args.place q.cut.tiled c.args.i c.if-i-lt2.false (omega (arith, c.if-i-end.true, c.bits_at-end.ensures))
 
 pub returns-then-i-end-2 : goal.returns-then-i-end-2
 returns-then-i-end-2 c =
     let q = c.args.outline in
-    link_byte q c.args.place q.cut.tiled c.args.i (omega (arith, c.if-i-end.false, c.bits-at-end.ensures)) (omega (arith, c.if-i-end-2.true, c.bits-at-end.ensures))
+    link_byte q c.args.place q.cut.tiled c.args.i (omega (arith, c.if-i-end.false, c.bits_at-end.ensures)) (omega (arith, c.if-i-end-2.true, c.bits_at-end.ensures))
 
 pub returns-else-i-end-2 : goal.returns-else-i-end-2
 returns-else-i-end-2 c =
     let q = c.args.outline in
-    c.value-byte.ensures
-    ∙ outer_byte q c.args.place q.cut.tiled c.args.i (omega (arith, c.if-i-end-2.false, c.bits-at-end.ensures))
+    c.value_byte.ensures
+    ∙ outer_byte q c.args.place q.cut.tiled c.args.i (omega (arith, c.if-i-end-2.false, c.bits_at-end.ensures))

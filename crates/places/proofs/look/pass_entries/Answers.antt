@@ -16,8 +16,8 @@ loop-i-init g c =
       looked_none g.S.Store.seen g.S.Store.may g.S.Store.trail c.args.store.now,
     )
 
-pub pass-entry-next-requires : goal.pass-entry-next-requires
-pass-entry-next-requires g c = record { near = c.loop-i.invariant.1; short = c.requires.short }
+pub pass_entry-next-requires : goal.pass_entry-next-requires
+pass_entry-next-requires g c = record { near = c.loop-i.invariant.1; short = c.requires.short }
 
 pub loop-i-preserved : goal.loop-i-preserved
 loop-i-preserved g c =
@@ -27,12 +27,12 @@ loop-i-preserved g c =
     let i = c.loop-i.i in
     let next = c.loop-i.next in
     let at = d.place + 2 + 12 * i in
-    let v : c.pass-entry-next.result ≡ passed_value (length bs) len next (entry_at d.endian bs at) =
-    c.pass-entry-next.ensures.value ∙ ap (λ xs. passed_value (length xs) len next (entry_at d.endian xs at)) c.loop-i.invariant.2.same in (
+    let v : c.pass_entry-next.result ≡ passed_value (length bs) len next (entry_at d.endian bs at) =
+    c.pass_entry-next.ensures.value ∙ ap (λ xs. passed_value (length xs) len next (entry_at d.endian xs at)) c.loop-i.invariant.2.same in (
       ap (λ q. passed_all len q (value_spans (length bs) (entries_from (d.entries - (i + 1)) d.endian bs (d.place + 2 + 12 * (i + 1))))) v
           ∙ sym (values_turn d.endian bs (length bs) len next (d.place + 2) i d.entries c.loop-i-test.true) ∙ c.loop-i.invariant.0,
-      c.pass-entry-next.ensures.near,
-      looked_on _ _ _ _ _ _ c.loop-i.invariant.2 c.pass-entry-next.ensures.looked,
+      c.pass_entry-next.ensures.near,
+      looked_on _ _ _ _ _ _ c.loop-i.invariant.2 c.pass_entry-next.ensures.looked,
     )
 
 pub returns : goal.returns

@@ -8,8 +8,8 @@ returns g c =
     let o = c.args.endian in
     let bs = g.S.Store.seen c.args.store.now in
     let at = c.args.entry in
-    let b = c.read-twelve-b.result in
-    let each = c.read-twelve-b.ensures.bytes in
+    let b = c.read_twelve-b.result in
+    let each = c.read_twelve-b.ensures.bytes in
     let kind = c.short-kind.ensures ∙ short_twelve o bs b at each 2 (omega arith) in
     let count = c.long-count.ensures ∙ long_twelve o bs b at each 4 (omega arith) in
     let last = c.long-last.ensures ∙ long_twelve o bs b at each 8 (omega arith) in
@@ -17,9 +17,9 @@ returns g c =
     let len = c.args.len in
     let place = c.args.place in
     record {
-      value = c.pass.ensures.value ∙ ap (passed len place) c.outer-extent.ensures.value
+      value = c.pass.ensures.value ∙ ap (passed len place) c.outer_extent.ensures.value
           ∙ ap (λ m. passed len place (outer_span m c.short-kind.result c.long-count.result c.long-last.result)) n
           ∙ entry_passed o bs at (length bs) len place _ _ _ kind count last;
       near = c.pass.ensures.near c.requires.near;
-      looked = c.read-twelve-b.ensures.looked;
+      looked = c.read_twelve-b.ensures.looked;
     }

@@ -11,10 +11,10 @@ returns g c =
     let bs = g.S.Store.seen c.args.store.now in
     let l = c.args.layout in
     let len = c.args.len in
-    let d = c.pass-behind.ensures.value ∙ ap (passed len c.args.place) c.directory-extent.ensures.value in
-    let s = c.pass-segments-beyond.ensures in
-    let e = c.pass-entries.ensures in
-    let v = e.value ∙ ap (λ xs. passed_all len c.pass-segments-beyond.result (value_spans (length xs) (entries_of xs l.directory))) s.looked.same in
+    let d = c.pass-behind.ensures.value ∙ ap (passed len c.args.place) c.directory_extent.ensures.value in
+    let s = c.pass_segments-beyond.ensures in
+    let e = c.pass_entries.ensures in
+    let v = e.value ∙ ap (λ xs. passed_all len c.pass_segments-beyond.result (value_spans (length xs) (entries_of xs l.directory))) s.looked.same in
     record {
       value = extents_passed bs l len c.args.place _ _ _ d s.value v;
       near = e.near;

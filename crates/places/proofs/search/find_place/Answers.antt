@@ -14,19 +14,19 @@ use Rattle.places.proofs.search.find_place.Goals as goal
 pub loop-layout-init : goal.loop-layout-init
 loop-layout-init g c =
     let all = extents (g.S.Store.seen c.args.store.now) c.layout-layout.result in
-    let first = c.first-place-place.ensures in (
+    let first = c.first_place-place.ensures in (
       subst (Tried all c.args.len) (sym first) (tried_none all c.args.len),
       omega (arith, first),
       looked_none g.S.Store.seen g.S.Store.may g.S.Store.trail c.args.store.now,
     )
 
-pub pass-extents-next-requires : goal.pass-extents-next-requires
-pass-extents-next-requires g c =
+pub pass_extents-next-requires : goal.pass_extents-next-requires
+pass_extents-next-requires g c =
     let h = leb-true (c.loop-layout.place + c.args.len) c.length-n.result (sym c.loop-layout-test.ensures) in
     record {
       sane = subst Sane (sym c.layout-layout.ensures) (sane_parts c.args.page.layout c.args.page.limits);
       near = c.loop-layout.invariant.1;
-      short = omega (arith, h, c.length-n.type-inv);
+      short = omega (arith, h, c.length-n.type_inv);
     }
 
 pub returns-then-next-place : goal.returns-then-next-place
@@ -35,7 +35,7 @@ returns-then-next-place g c =
     let len = c.args.len in
     let place = c.loop-layout.place in
     let i = c.loop-layout.invariant in
-    let r = c.pass-extents-next.ensures in
+    let r = c.pass_extents-next.ensures in
     let h = leb-true (place + len) c.length-n.result (sym c.loop-layout-test.ensures) in
     let e = sym (ap (λ xs. passed_all len place (extents xs c.layout-layout.result)) i.2.same) ∙ sym r.value ∙ c.if-next-place.true in
     let k : place + len ≤ length bs = subst (λ m. place + len ≤ m) c.length-n.ensures h in
@@ -53,9 +53,9 @@ pub loop-layout-smaller : goal.loop-layout-smaller
 loop-layout-smaller g c =
     let place = c.loop-layout.place in
     let h = leb-true (place + c.args.len) c.length-n.result (sym c.loop-layout-test.ensures) in
-    let r = c.pass-extents-next.ensures.value in
+    let r = c.pass_extents-next.ensures.value in
     let a = all_grows c.args.len place (extents (g.S.Store.seen c.loop-layout.store) c.layout-layout.result) in
-    let b : place ≤ c.pass-extents-next.result = subst (λ q. place ≤ q) (sym r) a in
+    let b : place ≤ c.pass_extents-next.result = subst (λ q. place ≤ q) (sym r) a in
     omega (arith, h, b, c.if-next-place.false)
 
 pub loop-layout-preserved : goal.loop-layout-preserved
@@ -64,9 +64,9 @@ loop-layout-preserved g c =
     let len = c.args.len in
     let place = c.loop-layout.place in
     let i = c.loop-layout.invariant in
-    let r = c.pass-extents-next.ensures in
+    let r = c.pass_extents-next.ensures in
     let v = r.value ∙ ap (λ xs. passed_all len place (extents xs c.layout-layout.result)) i.2.same in (
-      tried_more (extents bs c.layout-layout.result) len place c.pass-extents-next.result v i.0,
+      tried_more (extents bs c.layout-layout.result) len place c.pass_extents-next.result v i.0,
       r.near,
       looked_on _ _ _ _ _ _ i.2 r.looked,
     )

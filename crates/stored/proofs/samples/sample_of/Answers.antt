@@ -14,5 +14,5 @@ returns c =
     let b : ℕ = c.args.bits in
     let per : ℕ = per_byte b in
     let z : per - 1 - c.args.s ≡ per - suc c.args.s = omega arith in
-    ap₂ (λ a m. c.args.byte / 2 ^ a % m) (c.shift-of.ensures ∙ ap (λ n. b * n) z) (one_shl b 32 (small b c.requires.bits))
+    ap₂ (λ a m. c.args.byte / 2 ^ a % m) (c.shift_of.ensures ∙ ap (λ n. b * n) z) (one_shl b 32 (small b c.requires.bits))
     ∙ sym (digit_shift b per c.args.byte c.args.s)

@@ -13,14 +13,14 @@ returns g c =
     let x : ℕ = c.args.x in
     let y : ℕ = c.args.y in
     let bs : List ℕ = g.S.Store.seen c.args.store.now in
-    let offset = c.read-number-offset.ensures in
-    let r = c.read-pixel.ensures in
-    let at : c.read-number-offset.result + c.start-of.result ≡ offset_of bs l (segment_of l.cut l.width x y) + start_of l x y =
-    ap₂ (λ a b. a + b) (offset.value ∙ ap (offset_of bs l) c.segment-of-segment.ensures) c.start-of.ensures in
-    let read : c.read-pixel.result ≡ pixel_from bs l.kind.photometric l.kind.bits
+    let offset = c.read_number-offset.ensures in
+    let r = c.read_pixel.ensures in
+    let at : c.read_number-offset.result + c.start_of.result ≡ offset_of bs l (segment_of l.cut l.width x y) + start_of l x y =
+    ap₂ (λ a b. a + b) (offset.value ∙ ap (offset_of bs l) c.segment_of-segment.ensures) c.start_of.ensures in
+    let read : c.read_pixel.result ≡ pixel_from bs l.kind.photometric l.kind.bits
     (offset_of bs l (segment_of l.cut l.width x y) + start_of l x y) (first_sample l x % per_byte l.kind.bits) =
     r.value
-    ∙ (λ i. pixel_from (offset.looked.same i) l.kind.photometric l.kind.bits (at i) (c.first-sample.ensures i % per_byte l.kind.bits)) in
+    ∙ (λ i. pixel_from (offset.looked.same i) l.kind.photometric l.kind.bits (at i) (c.first_sample.ensures i % per_byte l.kind.bits)) in
     record {
       value = read ∙ pixel_from_lem bs l x y c.requires.sane.kind;
       same = r.same ∙ offset.looked.same;
