@@ -5,8 +5,8 @@ use Rattle.hold.specs.Kept.{tagged, overlaid}
 use Rattle.hold.proofs.Kept.{quiet_trans, quiet_table, length_quiet, load_same, kept_same}
 use Rattle.hold.proofs.Hold.claim.Goals as goal
 
-pub read-sector-requires : goal.read-sector-requires
-read-sector-requires g c = omega (arith, c.requires, length_quiet _ _ _ _ c.flush.ensures.quiet.same)
+pub read_sector-requires : goal.read_sector-requires
+read_sector-requires g c = omega (arith, c.requires, length_quiet _ _ _ _ c.flush.ensures.quiet.same)
 
 pub returns : goal.returns
 returns g c =
@@ -18,7 +18,7 @@ returns g c =
     let n : length slots ≡ 8 = omega arith in
     let l : i < length slots = omega arith in
     let tag : f.tag ≡ Some (s₀ / 8) = ap (λ (u : Slot). u.tag) c.fill.ensures in
-    let r = c.read-sector.ensures in
+    let r = c.read_sector.ensures in
     let laws = g.C.Store.laws in
     let same : overlaid (set slots i f) below ≡ overlaid slots below =
     load_same slots i s₀ f below l refl c.flush.ensures.free tag

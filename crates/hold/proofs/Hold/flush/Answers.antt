@@ -16,34 +16,34 @@ returns-in-Some g c =
     let f : Slot = c.free.new.self in
     let n : length slots ≡ 8 = omega arith in
     let l : i < length slots = omega (arith, c.requires) in
-    let w = c.write-sector.ensures in
+    let w = c.write_sector.ensures in
     let ft : f.tag ≡ None = ap (λ (u : Slot). u.tag) c.free.ensures in
-    let put : g.C.Store.seen c.write-sector.new.card ≡ laid below (512 * (8 * tag + i)) t.bytes = w.put ∙ ap (λ (p : ℕ). laid below p t.bytes) c.first-byte.ensures.is in
-    let same : overlaid (set slots i f) (g.C.Store.seen c.write-sector.new.card) ≡ overlaid slots below =
+    let put : g.C.Store.seen c.write_sector.new.card ≡ laid below (512 * (8 * tag + i)) t.bytes = w.put ∙ ap (λ (p : ℕ). laid below p t.bytes) c.first_byte.ensures.is in
+    let same : overlaid (set slots i f) (g.C.Store.seen c.write_sector.new.card) ≡ overlaid slots below =
     ap (overlaid (set slots i f)) put ∙ flush_same slots i t f below tag l (get_or_default slots i _ _ l) c.requires c.in-Some.is ft w.len in
     let free : (s : ℕ) → s % 8 ≡ i → kept (set slots i f) s ≡ false = λ s e. kept_same slots i f s l e ∙ ap (λ (o : Option ℕ). tagged o s) ft in
     let laws = g.C.Store.laws in
     record {
       quiet = record {
         same = same;
-        lists = flush_nogain slots (set slots i f) below _ _ _ (8 * tag + i) same (free (8 * tag + i) (omega (arith, c.requires))) (laws.held c.args.self.now.below) (rw (sym c.first-byte.ensures.is) w.lists);
+        lists = flush_nogain slots (set slots i f) below _ _ _ (8 * tag + i) same (free (8 * tag + i) (omega (arith, c.requires))) (laws.held c.args.self.now.below) (rw (sym c.first_byte.ensures.is) w.lists);
         trails = flush_nogain slots (set slots i f) below _ _ _ (8 * tag + i) same (free (8 * tag + i) (omega (arith, c.requires)))
-            (λ s. laws.trailed c.args.self.now.below s _ (laws.held c.args.self.now.below s)) (rw (sym c.first-byte.ensures.is) w.trails);
+            (λ s. laws.trailed c.args.self.now.below s _ (laws.held c.args.self.now.below s)) (rw (sym c.first_byte.ensures.is) w.trails);
       };
       others = λ s un. kept_other slots i f s un;
       free = free;
     }
 
-pub returns-in-default : goal.returns-in-default
-returns-in-default g c =
+pub returns-in_default : goal.returns-in_default
+returns-in_default g c =
     let slots = c.args.self.now.table.slots in
     let i = c.args.i in
-    let is = c.in-default.is in
+    let is = c.in_default.is in
     let n : length slots ≡ 8 = omega arith in
     let l : i < length slots = omega (arith, c.requires) in
     let t : Slot = get_or slots i (record { tag = None; bytes = [] }) in
     record {
       quiet = record { same = refl; lists = same_nogain _ _ _; trails = same_nogain _ _ _ };
       others = λ s un. refl;
-      free = λ s e. kept_is slots i t l (get_or_default slots i _ _ l) s e ∙ ap (λ (o : Option ℕ). tagged o s) c.in-default.is;
+      free = λ s e. kept_is slots i t l (get_or_default slots i _ _ l) s e ∙ ap (λ (o : Option ℕ). tagged o s) c.in_default.is;
     }

@@ -8,6 +8,6 @@ returns g c =
     let h = needed_whole c.args.layout c.args.k c.needed.result c.requires c.needed.ensures in
     record {
       value = λ i. record { place = r.value i; count = h.0 i };
-      near = omega (arith, h.1, c.read_number-offset.ok);
+      near = omega (arith, h.1, c.read_number-offset.type_inv);
       looked = r.looked;
     }

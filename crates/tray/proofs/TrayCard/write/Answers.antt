@@ -7,15 +7,15 @@ use Rattle.octets.proofs.Laid.{none_patched}
 use Rattle.store.proofs.Changes.{none_gain, length_written}
 use Rattle.tray.proofs.TrayCard.write.Goals as goal
 
-pub returns-then-is-empty : goal.returns-then-is-empty
-returns-then-is-empty g c =
-    let e = eqb-true _ _ (sym c.if-is-empty.ensures) in
+pub returns-then-is_empty : goal.returns-then-is_empty
+returns-then-is_empty g c =
+    let e = eqb-true _ _ (sym c.if-is_empty.ensures) in
     let h = leb-true _ _ (sym c.if-not-within.ensures) in
     record { answer = omega (arith, c.length.ensures); put = sym (none_patched _ _ _ e); lists = none_gain _ _ _ _ e; trails = none_gain _ _ _ _ e }
 
-pub overflow-add-from : goal.overflow-add-from
-overflow-add-from g c =
-    let e = eqb-false _ _ (sym c.if-is-empty.ensures) in
+pub overflow_add-from : goal.overflow_add-from
+overflow_add-from g c =
+    let e = eqb-false _ _ (sym c.if-is_empty.ensures) in
     let h = leb-true _ _ (sym c.if-not-within.ensures) in
     let t = c.args.self.now in
     let bytes = g.C.Store.seen t.below in
@@ -24,7 +24,7 @@ overflow-add-from g c =
 
 pub returns : goal.returns
 returns g c =
-    let e = eqb-false _ _ (sym c.if-is-empty.ensures) in
+    let e = eqb-false _ _ (sym c.if-is_empty.ensures) in
     let h = leb-true _ _ (sym c.if-not-within.ensures) in
     let t = c.args.self.now in
     let r = c.write.result in

@@ -6,15 +6,15 @@ use Rattle.tray.proofs.Parts.{cut_fits, part_answered, part_filled, part_nogain}
 use Rattle.store.proofs.Changes.{none_filled, same_lists}
 use Rattle.tray.proofs.TrayStore.read.Goals as goal
 
-pub returns-then-is-empty : goal.returns-then-is-empty
-returns-then-is-empty g c =
-    let e = eqb-true _ _ (sym c.if-is-empty.ensures) in
+pub returns-then-is_empty : goal.returns-then-is_empty
+returns-then-is_empty g c =
+    let e = eqb-true _ _ (sym c.if-is_empty.ensures) in
     let h = leb-true _ _ (sym c.if-not-within.ensures) in
     record { answer = omega (arith, c.length.ensures); got = none_filled _ _ e; same = refl; lists = same_lists _; trails = same_lists _ }
 
-pub overflow-add-from : goal.overflow-add-from
-overflow-add-from g c =
-    let e = eqb-false _ _ (sym c.if-is-empty.ensures) in
+pub overflow_add-from : goal.overflow_add-from
+overflow_add-from g c =
+    let e = eqb-false _ _ (sym c.if-is_empty.ensures) in
     let h = leb-true _ _ (sym c.if-not-within.ensures) in
     let t = c.args.self.now in
     let bytes = g.C.Store.seen t.below in
@@ -23,7 +23,7 @@ overflow-add-from g c =
 
 pub returns : goal.returns
 returns g c =
-    let e = eqb-false _ _ (sym c.if-is-empty.ensures) in
+    let e = eqb-false _ _ (sym c.if-is_empty.ensures) in
     let h = leb-true _ _ (sym c.if-not-within.ensures) in
     let t = c.args.self.now in
     let r = c.read.result in

@@ -25,9 +25,9 @@ pub loop-t-init : goal.loop-t-init
 unfolding packed
 loop-t-init g c = (refl, g.G.Grid.keeps.none _, refl)
 
-pub overflow-mul-sum : goal.overflow-mul-sum
+pub overflow_mul-sum : goal.overflow_mul-sum
 unfolding sample
-overflow-mul-sum g c =
+overflow_mul-sum g c =
     let q = c.args.outline in
     omega (
       arith,
@@ -35,13 +35,13 @@ overflow-mul-sum g c =
       ap₂ (λ a m. a * m) c.loop-t.invariant.2 (levels_shifted q.kind.bits (allowed_bits q.kind c.requires.outline.proper.kind)),
     )
 
-pub overflow-add-sum : goal.overflow-add-sum
+pub overflow_add-sum : goal.overflow_add-sum
 unfolding sample
-overflow-add-sum g c =
+overflow_add-sum g c =
     let q = c.args.outline in
     let p = g.G.Grid.picture c.args.grid.now in
-    let v = c.grey-sample.ensures.value
-    ∙ ap (padded_at c.args.outline (viewed (g.G.Grid.picture c.loop-t.grid) c.args.view).at c.args.spot) c.sample-of.ensures
+    let v = c.grey_sample.ensures.value
+    ∙ ap (padded_at c.args.outline (viewed (g.G.Grid.picture c.loop-t.grid) c.args.view).at c.args.spot) c.sample_of.ensures
     ∙ ap (λ (r : Picture). padded_at c.args.outline (viewed r c.args.view).at c.args.spot (c.args.spot.byte * per_byte c.args.outline.kind.bits + c.loop-t.t)) c.loop-t.invariant.0 in
     omega (
       arith,
@@ -56,17 +56,17 @@ loop-t-preserved g c =
     let q = c.args.outline in
     let p = g.G.Grid.picture c.args.grid.now in
     let f : ℕ → ℕ = λ t. padded_at c.args.outline (viewed (g.G.Grid.picture c.args.grid.now) c.args.view).at c.args.spot (c.args.spot.byte * per_byte c.args.outline.kind.bits + t) in
-    let v = c.grey-sample.ensures.value
-    ∙ ap (padded_at c.args.outline (viewed (g.G.Grid.picture c.loop-t.grid) c.args.view).at c.args.spot) c.sample-of.ensures
+    let v = c.grey_sample.ensures.value
+    ∙ ap (padded_at c.args.outline (viewed (g.G.Grid.picture c.loop-t.grid) c.args.view).at c.args.spot) c.sample_of.ensures
     ∙ ap (λ (r : Picture). padded_at c.args.outline (viewed r c.args.view).at c.args.spot (c.args.spot.byte * per_byte c.args.outline.kind.bits + c.loop-t.t)) c.loop-t.invariant.0 in (
-      c.grey-sample.ensures.kept ∙ c.loop-t.invariant.0,
-      g.G.Grid.keeps.both c.loop-t.invariant.1 c.grey-sample.ensures.keeps,
+      c.grey_sample.ensures.kept ∙ c.loop-t.invariant.0,
+      g.G.Grid.keeps.both c.loop-t.invariant.1 c.grey_sample.ensures.keeps,
       (λ i. c.loop-t.invariant.2 i * levels_shifted q.kind.bits (allowed_bits q.kind c.requires.outline.proper.kind) i + v i)
           ∙ ap (λ n. packed (2 ^ q.kind.bits) n f) (sym (add-one c.loop-t.t)),
     )
 
-pub overflow-cast-result : goal.overflow-cast-result
-overflow-cast-result g c =
+pub overflow_cast-result : goal.overflow_cast-result
+overflow_cast-result g c =
     let q = c.args.outline in
     let at = (viewed (g.G.Grid.picture c.args.grid.now) c.args.view).at in
     let e : c.loop-t.t ≡ per_byte c.args.outline.kind.bits = omega arith in

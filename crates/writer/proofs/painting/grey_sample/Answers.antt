@@ -5,9 +5,9 @@ use Rattle.writer.proofs.painting.grey_sample.Goals as goal
 pub returns-then-s-outline : goal.returns-then-s-outline
 returns-then-s-outline g c = record {
   value =
-      c.seen-pixel.ensures.value
+      c.seen_pixel.ensures.value
       ∙ asked_sample c.args.outline (g.G.Grid.picture c.args.grid.now) c.args.view c.requires.outline (g.G.Grid.sound c.args.grid.now) c.requires.single
       c.args.spot c.args.s c.if-s-outline.true;
-  kept = c.seen-pixel.ensures.kept;
-  keeps = c.seen-pixel.ensures.keeps;
+  kept = c.seen_pixel.ensures.kept;
+  keeps = c.seen_pixel.ensures.keeps;
 }

@@ -21,26 +21,26 @@ colour-pixel-requires g c =
       shared = subst (λ (s : Spot). Shared q at c.args.last s) (sym c.locate-spot.ensures.value) (known_shared q at c.requires.outline.proper c.args.last c.args.j c.requires.known);
     }
 
-pub returns-then-samples-of-eq1 : goal.returns-then-samples-of-eq1
-returns-then-samples-of-eq1 g c =
+pub returns-then-samples_of-eq1 : goal.returns-then-samples_of-eq1
+returns-then-samples_of-eq1 g c =
     let q = c.args.outline in
     let at = (viewed (g.G.Grid.picture c.args.grid.now) c.args.view).at in
     record {
-      byte = c.grey-byte.ensures.value ∙ ap (byte_at q at) c.locate-spot.ensures.value;
+      byte = c.grey_byte.ensures.value ∙ ap (byte_at q at) c.locate-spot.ensures.value;
       known = tt;
-      kept = c.grey-byte.ensures.kept;
-      keeps = c.grey-byte.ensures.keeps;
+      kept = c.grey_byte.ensures.kept;
+      keeps = c.grey_byte.ensures.keeps;
     }
 
-pub returns-else-samples-of-eq1 : goal.returns-else-samples-of-eq1
-returns-else-samples-of-eq1 g c =
+pub returns-else-samples_of-eq1 : goal.returns-else-samples_of-eq1
+returns-else-samples_of-eq1 g c =
     let q = c.args.outline in
     let at = (viewed (g.G.Grid.picture c.args.grid.now) c.args.view).at in
     let j = c.args.j in
     let spot = c.locate-spot.result in
     let value = c.locate-spot.ensures.value in
     let n = spot.byte % 3 in
-    let kinds = three_samples q.kind c.requires.outline.proper.kind (λ e. c.if-samples-of-eq1.false (c.samples-of.ensures ∙ e)) in
+    let kinds = three_samples q.kind c.requires.outline.proper.kind (λ e. c.if-samples_of-eq1.false (c.samples_of.ensures ∙ e)) in
     let row = rgb_row q.cut.wide (spot_of q j).byte _ _ kinds.1 kinds.0 (mod-lt _ (row_positive q c.requires.outline.proper)) in
     let pixel = c.colour-pixel.ensures.value ∙ ap (λ (s : Spot). pixel_at q at s (s.byte / 3)) value in
     record {

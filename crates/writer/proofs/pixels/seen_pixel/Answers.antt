@@ -11,7 +11,7 @@ pub returns : goal.returns
 returns g c =
     let p = g.G.Grid.picture c.args.grid.now in
     let v = c.args.view in
-    let inside = and_parts (ltb c.args.x c.size.result.width) (ltb c.args.y c.size.result.height) (sym c.is-inside.ensures ∙ c.if-not-is-inside.false) in
+    let inside = and_parts (ltb c.args.x c.size.result.width) (ltb c.args.y c.size.result.height) (sym c.is_inside.ensures ∙ c.if-not-is_inside.false) in
     let lx : c.args.x < view_width c.args.view = omega (arith, ltb-true c.args.x c.size.result.width inside.0, c.size.ensures.width) in
     let ly : c.args.y < view_height c.args.view = omega (arith, ltb-true c.args.y c.size.result.height inside.1, c.size.ensures.height) in
     let column = c.below-column.result.0 in

@@ -10,7 +10,7 @@ pub paint-requires : goal.paint-requires
 paint-requires g c =
     let q = c.args.outline in
     let at = (viewed (g.G.Grid.picture c.args.grid.now) c.args.view).at in
-    let e = c.head-size-head.ensures in
+    let e = c.head_size-head.ensures in
     let l : head_size c.args.outline ≤ c.args.i = omega (arith, c.if-i-head.false, e) in
     record {
       outline = c.requires.outline;
@@ -23,7 +23,7 @@ returns-then-i-head g c =
     let q = c.args.outline in
     let at = (viewed (g.G.Grid.picture c.args.grid.now) c.args.view).at in
     record {
-      byte = c.head-byte.ensures ∙ byte_of_head q at c.args.place c.args.i (omega (arith, c.if-i-head.true, c.head-size-head.ensures));
+      byte = c.head_byte.ensures ∙ byte_of_head q at c.args.place c.args.i (omega (arith, c.if-i-head.true, c.head_size-head.ensures));
       known = tt;
       kept = refl;
       keeps = g.G.Grid.keeps.none _;
@@ -33,9 +33,9 @@ pub returns-else-i-head : goal.returns-else-i-head
 returns-else-i-head g c =
     let q = c.args.outline in
     let at = (viewed (g.G.Grid.picture c.args.grid.now) c.args.view).at in
-    let e = c.head-size-head.ensures in
+    let e = c.head_size-head.ensures in
     let l : head_size c.args.outline ≤ c.args.i = omega (arith, c.if-i-head.false, e) in
-    let next : c.args.i - c.head-size-head.result + 1 ≡ c.args.i + 1 - head_size c.args.outline = omega (arith, e, l) in
+    let next : c.args.i - c.head_size-head.result + 1 ≡ c.args.i + 1 - head_size c.args.outline = omega (arith, e, l) in
     record {
       byte = c.paint.ensures.byte ∙ ap (λ h. segments_byte q at (c.args.i - h)) e ∙ byte_of_segments q at c.args.place c.args.i l;
       known = subst (λ m. Known q at c.paint.result.pixel m) next c.paint.ensures.known;

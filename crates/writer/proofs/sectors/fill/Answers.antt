@@ -12,14 +12,14 @@ use Rattle.writer.proofs.sectors.fill.Goals as goal
 pub loop-t-init : goal.loop-t-init
 loop-t-init g c = (refl, g.G.Grid.keeps.none _, tt, put_none c.args.buffer.now 0 (omega arith))
 
-pub overflow-add-first : goal.overflow-add-first
-overflow-add-first g c =
+pub overflow_add-first : goal.overflow_add-first
+overflow_add-first g c =
     let q = c.args.outline in
     let some : 0 < c.args.count = omega (arith, c.loop-t-test.true) in
     omega (arith, c.requires.within some, c.loop-t-test.true, block_bounded q c.requires.outline.proper c.requires.outline.few)
 
-pub draft-byte-painted-requires : goal.draft-byte-painted-requires
-draft-byte-painted-requires g c =
+pub draft_byte-painted-requires : goal.draft_byte-painted-requires
+draft_byte-painted-requires g c =
     let q = c.args.outline in
     let same = sym c.loop-t.invariant.0 in
     let some : 0 < c.args.count = omega (arith, c.loop-t-test.true) in
@@ -36,12 +36,12 @@ loop-t-preserved g c =
     let p = g.G.Grid.picture c.args.grid.now in
     let f : ℕ → ℕ = λ i. block_byte c.args.outline (viewed (g.G.Grid.picture c.args.grid.now) c.args.view).at c.args.place (c.args.first + i) in
     let next : c.args.first + c.loop-t.t + 1 - head_size c.args.outline ≡ c.args.first + (c.loop-t.t + 1) - head_size c.args.outline = omega arith in
-    let known = subst (λ (r : Picture). Known q (viewed r c.args.view).at c.draft-byte-painted.result.pixel (c.args.first + c.loop-t.t + 1 - head_size q)) c.loop-t.invariant.0 c.draft-byte-painted.ensures.known in
-    let byte = c.draft-byte-painted.ensures.byte ∙ ap (λ (r : Picture). block_byte q (viewed r c.args.view).at c.args.place (c.args.first + t)) c.loop-t.invariant.0 in
+    let known = subst (λ (r : Picture). Known q (viewed r c.args.view).at c.draft_byte-painted.result.pixel (c.args.first + c.loop-t.t + 1 - head_size q)) c.loop-t.invariant.0 c.draft_byte-painted.ensures.known in
+    let byte = c.draft_byte-painted.ensures.byte ∙ ap (λ (r : Picture). block_byte q (viewed r c.args.view).at c.args.place (c.args.first + t)) c.loop-t.invariant.0 in
     let put = c.loop-t.invariant.3 in (
-      c.draft-byte-painted.ensures.kept ∙ c.loop-t.invariant.0,
-      g.G.Grid.keeps.both c.loop-t.invariant.1 c.draft-byte-painted.ensures.keeps,
-      subst (λ m. Known q (viewed p c.args.view).at c.draft-byte-painted.result.pixel m) next known,
+      c.draft_byte-painted.ensures.kept ∙ c.loop-t.invariant.0,
+      g.G.Grid.keeps.both c.loop-t.invariant.1 c.draft_byte-painted.ensures.keeps,
+      subst (λ m. Known q (viewed p c.args.view).at c.draft_byte-painted.result.pixel m) next known,
       put_as (sym (map-range_with_len_more f 0 t t (omega arith)))
-          (put_then put (put_as (ap (λ b. b ∷ []) byte) (put_one c.loop-t.buffer t c.draft-byte-painted.result.byte (omega (arith, put_length put, c.told-buffer, c.requires.room, c.loop-t-test.true))))),
+          (put_then put (put_as (ap (λ b. b ∷ []) byte) (put_one c.loop-t.buffer t c.draft_byte-painted.result.byte (omega (arith, put_length put, c.told-buffer, c.requires.room, c.loop-t-test.true))))),
     )

@@ -62,7 +62,7 @@ returns-in-Err g c =
 pub returns-then-segments-gt1024 : goal.returns-then-segments-gt1024
 returns-then-segments-gt1024 g c =
     let p = g.G.Grid.picture c.args.grid.now in
-    let t = seen p c.args.view _ _ c.check.result _ c.size.ensures.width c.size.ensures.height c.check.ensures c.in-default.is in
+    let t = seen p c.args.view _ _ c.check.result _ c.size.ensures.width c.size.ensures.height c.check.ensures c.in_default.is in
     let e = outline_by_lem c.args.plan p c.args.view c.outline-outline.result _ _ _ c.size-2.ensures.width c.size-2.ensures.height c.kind.ensures c.outline-outline.ensures in
     let many : 1024 < segments_in (plan_outline c.args.plan (view_width c.args.view) (view_height c.args.view) p.kind) =
     subst (λ (q : Outline). 1024 < segments_in q) e (omega (arith, c.if-segments-gt1024.true, c.segments.ensures)) in
@@ -73,7 +73,7 @@ returns-then-segments-gt1024 g c =
 pub size-requires-3 : goal.size-requires-3
 size-requires-3 g c =
     let p = g.G.Grid.picture c.args.grid.now in
-    let t = seen p c.args.view _ _ c.check.result _ c.size.ensures.width c.size.ensures.height c.check.ensures c.in-default.is in
+    let t = seen p c.args.view _ _ c.check.result _ c.size.ensures.width c.size.ensures.height c.check.ensures c.in_default.is in
     let e = outline_by_lem c.args.plan p c.args.view c.outline-outline.result _ _ _ c.size-2.ensures.width c.size-2.ensures.height c.kind.ensures c.outline-outline.ensures in
     record {
       proper = subst Proper (sym e) (made_proper c.args.plan p c.args.view (g.G.Grid.sound c.args.grid.now) t);
@@ -83,21 +83,21 @@ size-requires-3 g c =
 pub fill-requires : goal.fill-requires
 fill-requires g c =
     let p = g.G.Grid.picture c.args.grid.now in
-    let t = seen p c.args.view _ _ c.check.result _ c.size.ensures.width c.size.ensures.height c.check.ensures c.in-default.is in
+    let t = seen p c.args.view _ _ c.check.result _ c.size.ensures.width c.size.ensures.height c.check.ensures c.in_default.is in
     let e = outline_by_lem c.args.plan p c.args.view c.outline-outline.result _ _ _ c.size-2.ensures.width c.size-2.ensures.height c.kind.ensures c.outline-outline.ensures in
     let few : segments_in c.outline-outline.result ≤ 1024 = omega (arith, c.if-segments-gt1024.false, c.segments.ensures) in
     record {
       outline = subst (λ (q : Outline). Outlines q p c.args.view) (sym e) (made_outlines c.args.plan p c.args.view (g.G.Grid.sound c.args.grid.now) t (subst (λ (q : Outline). segments_in q ≤ 1024) e few));
-      room = omega (arith, c.sector-len-count.ensures);
-      within = λ some. omega (arith, c.sector-len-count.ensures, c.size-3.ensures);
+      room = omega (arith, c.sector_len-count.ensures);
+      within = λ some. omega (arith, c.sector_len-count.ensures, c.size-3.ensures);
     }
 
 pub returns : goal.returns
 returns g c =
     let p = g.G.Grid.picture c.args.grid.now in
-    let t = seen p c.args.view _ _ c.check.result _ c.size.ensures.width c.size.ensures.height c.check.ensures c.in-default.is in
+    let t = seen p c.args.view _ _ c.check.result _ c.size.ensures.width c.size.ensures.height c.check.ensures c.in_default.is in
     let e = outline_by_lem c.args.plan p c.args.view c.outline-outline.result _ _ _ c.size-2.ensures.width c.size-2.ensures.height c.kind.ensures c.outline-outline.ensures in
     let few : segments_in c.outline-outline.result ≤ 1024 = omega (arith, c.if-segments-gt1024.false, c.segments.ensures) in
-    let count = c.sector-len-count.ensures ∙ ap (λ m. min 512 (m - 512 * c.args.sector)) c.size-3.ensures in
-    let both = filled c.args.plan p c.args.view c.outline-outline.result c.args.place c.args.sector c.sector-len-count.result c.args.buffer.now _ (g.G.Grid.sound c.args.grid.now) t e few count c.fill.ensures.put in
+    let count = c.sector_len-count.ensures ∙ ap (λ m. min 512 (m - 512 * c.args.sector)) c.size-3.ensures in
+    let both = filled c.args.plan p c.args.view c.outline-outline.result c.args.place c.args.sector c.sector_len-count.result c.args.buffer.now _ (g.G.Grid.sound c.args.grid.now) t e few count c.fill.ensures.put in
     record { count = both.0; bytes = both.1; kept = c.fill.ensures.kept; keeps = c.fill.ensures.keeps }

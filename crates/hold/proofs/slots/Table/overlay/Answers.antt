@@ -5,7 +5,7 @@ use Rattle.hold.proofs.slots.Table.overlay.Goals as goal
 
 pub loop-i-preserved : goal.loop-i-preserved
 loop-i-preserved c =
-    let f = c.overlay-slot.ensures in
+    let f = c.overlay_slot.ensures in
     let i = c.loop-i.i in
     let slots = c.args.self.now.slots in
     let place = c.args.place in

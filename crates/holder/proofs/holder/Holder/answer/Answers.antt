@@ -15,7 +15,7 @@ returns g c =
     let call = c.args.line.now.call in
     let old : List ℕ = vec_items c.args.line.now.buffer in
     let new : List ℕ = c.make-line.new.buffer in
-    let same : c.deref-mut.result.now ≡ old = c.deref-mut.ensures.value in
+    let same : c.deref_mut.result.now ≡ old = c.deref_mut.ensures.value in
     let long : length new ≡ c.args.line.now.buffer.len = omega arith in
     record {
       stepped = record {

@@ -7,23 +7,23 @@ use Rattle.holder.specs.Told.{WroteBy}
 use Rattle.holder.proofs.Carries.{front_put, front_within, wrote_after}
 use Rattle.holder.proofs.holder.Holder.put_sector.Goals as goal
 
-pub write-front-requires : goal.write-front-requires
-write-front-requires g c =
-    let f = c.fill-sector-count.ensures in
+pub write_front-requires : goal.write_front-requires
+write_front-requires g c =
+    let f = c.fill_sector-count.ensures in
     let given : List ℕ = draft_sector c.args.draft.plan (picture_by g.C.Store.seen c.args.self.now) c.args.draft.view c.args.draft.place c.args.sector in
-    let within : length given ≤ length c.fill-sector-count.new.buffer = front_within c.fill-sector-count.new.buffer _ given f.bytes in
-    omega (arith, f.count, c.fill-sector-count.array_long)
+    let within : length given ≤ length c.fill_sector-count.new.buffer = front_within c.fill_sector-count.new.buffer _ given f.bytes in
+    omega (arith, f.count, c.fill_sector-count.array_long)
 
 pub returns : goal.returns
 returns g c =
-    let k : Mem = mem_of g.C.Store.seen g.C.Store.may g.C.Store.trail c.fill-sector-count.new.grid.store in
+    let k : Mem = mem_of g.C.Store.seen g.C.Store.may g.C.Store.trail c.fill_sector-count.new.grid.store in
     let m : Mem = mem_of g.C.Store.seen g.C.Store.may g.C.Store.trail c.args.self.now.store in
-    let n : Mem = mem_of g.C.Store.seen g.C.Store.may g.C.Store.trail c.write-front.new.card in
+    let n : Mem = mem_of g.C.Store.seen g.C.Store.may g.C.Store.trail c.write_front.new.card in
     let given : List ℕ = draft_sector c.args.draft.plan (picture_by g.C.Store.seen c.args.self.now) c.args.draft.view c.args.draft.place c.args.sector in
-    let f = c.fill-sector-count.ensures in
-    let front : take c.fill-sector-count.result c.fill-sector-count.new.buffer ≡ given = (λ i. take (f.count i) (f.bytes i)) ∙ front_put _ given in
+    let f = c.fill_sector-count.ensures in
+    let front : take c.fill_sector-count.result c.fill_sector-count.new.buffer ≡ given = (λ i. take (f.count i) (f.bytes i)) ∙ front_put _ given in
     record {
-      wrote = wrote_after c.write-front.result m k n (c.args.draft.place + 512 * c.args.sector) given f.keeps.quiet
-          (subst (λ xs. WroteBy c.write-front.result k (c.args.draft.place + 512 * c.args.sector) xs n) front c.write-front.ensures);
+      wrote = wrote_after c.write_front.result m k n (c.args.draft.place + 512 * c.args.sector) given f.keeps.quiet
+          (subst (λ xs. WroteBy c.write_front.result k (c.args.draft.place + 512 * c.args.sector) xs n) front c.write_front.ensures);
       state = f.keeps.state;
     }
