@@ -1,14 +1,14 @@
 -- A step of a holder, from what its store did.
-use Rattle.std.proofs.Common.{◌≡◌, ℕ, ◌+◌, ◌^◌, ◌<◌, ◌≤◌, Bool, true, false, cond, ◌⊎◌, List, [], ◌∷◌, length, Some, None, Option, sym, refl, ap, ◌∙◌, subst, inl, inr, ⊎_elim, true≢false}
+use Rattle.std.proofs.Common.{◌≡◌, ℕ, false, ◌⊎◌, List, [], ◌∷◌, length, Some, None, Option, sym, ap, ◌∙◌, subst, inl, inr, ⊎_elim, true≢false}
 use Rattle.octets.specs.Sectors.{sector, patched, In, Lists, Touched}
-use Rattle.store.specs.Rules.{NoGain, Alone, Gain}
+use Rattle.store.specs.Rules.{Gain}
 use Rattle.store.specs.Power.{write_lays}
 use Rattle.store.proofs.Changes.{touched_or}
 use Rattle.std.proofs.lemmas.Bool.{cond-true, and_from, lt-ltb}
 use Rattle.drafts.specs.declared.call.Call.{Call}
 use Rattle.drafts.specs.Mem.{Mem, Lawful, Quiet, Settled}
 use Rattle.drafts.specs.Wrote.{Wrote}
-use Rattle.drafts.specs.Steps.{Held, World, world, Answer, Write, write, answer_of, held_of, write_of, bytes_by, lays_by, bytes_of, lays, settles, Step}
+use Rattle.drafts.specs.Steps.{Held, world, Answer, Write, write, answer_of, held_of, write_of, bytes_by, lays_by, lays, settles, Step}
 
 pub quiet_then : {k m n : Mem} → Quiet k m → Quiet m n → Quiet k n
 quiet_then p q = record {

@@ -1,12 +1,11 @@
 -- What each call of a holder answers, keeps in mind, writes and settles; and the step that a call is. Assumes nothing.
-use Rattle.std.specs.Prelude.{◌≡◌, ℕ, ◌+◌, ◌-◌, ◌*◌, ◌/◌, ◌%◌, ◌<◌, ◌≤◌, Bool, true, false, cond, not, ◌⊎◌, List, [], ◌∷◌, length, is_some, Some, None, Ok, Err, Option, Result, ◌==◌, nat_lt}
+use Rattle.std.specs.Prelude.{◌≡◌, ℕ, ◌+◌, ◌-◌, ◌*◌, ◌%◌, ◌<◌, ◌≤◌, Bool, true, false, cond, not, ◌⊎◌, List, length, is_some, Some, None, Ok, Err, Option, Result, ◌==◌, nat_lt}
 use Rattle.faults.specs.declared.fault.Check.TheVariants.{Busy, Closed, Pages, View as ViewCheck, Many, Space, Stage as StageCheck}
 use Rattle.faults.specs.declared.fault.Fault.{Fault}
 use Rattle.faults.specs.Faults.{bare, refused, then}
 use Rattle.octets.specs.Rows.{ceil}
 use Rattle.octets.specs.Sectors.{sector, patched, In, Lists}
 use Rattle.store.specs.Power.{nothing, write_lays}
-use Rattle.raster.specs.declared.grid.Size.{Size}
 use Rattle.raster.specs.declared.grid.Kind.{Kind}
 use Rattle.raster.specs.Picture.{Picture, empty, pixel_of}
 use Rattle.raster.specs.Turns.{composed}

@@ -1,12 +1,11 @@
 -- An entry read as twelve bytes.
-use Rattle.std.proofs.Common.{◌≡◌, ℕ, zero, suc, ◌+◌, ◌<◌, ◌≤◌, List, [], ◌∷◌, length, get_or, take, drop, sym, refl, ap, ◌∙◌, add_assoc, arith}
+use Rattle.std.proofs.Common.{◌≡◌, ℕ, zero, suc, ◌+◌, ◌<◌, List, [], ◌∷◌, get_or, take, drop, sym, ap, ◌∙◌, add_assoc, arith}
 use Rattle.std.proofs.lemmas.List.{get_or-take, get_or-drop}
 use Rattle.octets.specs.Digits.{number}
 use Rattle.octets.specs.Numbers.{short, long}
 use Rattle.octets.specs.Rows.{byte}
 use Rattle.octets.specs.declared.endian.Endian.{Endian}
 use Rattle.octets.proofs.Digits.{number_same}
-use Rattle.entries.specs.declared.entry.Entry.{Entry}
 use Rattle.entries.specs.Entries.{entry_at, size_of, home_of}
 
 module _ (o : Endian) (bs b : List ℕ) (place : ℕ) (got : b ≡ take 12 (drop place bs)) where

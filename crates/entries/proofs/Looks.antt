@@ -1,5 +1,5 @@
 -- Looks at a store, one after another.
-use Rattle.std.proofs.Common.{◌≡◌, ℕ, List, refl, ◌∙◌}
+use Rattle.std.proofs.Common.{ℕ, List, refl, ◌∙◌}
 use Rattle.octets.specs.Sectors.{Lists}
 use Rattle.entries.specs.Looking.{Looked}
 

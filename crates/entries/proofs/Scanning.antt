@@ -1,12 +1,12 @@
 -- The entries that are left in a loop over a directory.
-use Rattle.std.proofs.Common.{◌≡◌, ℕ, suc, ◌+◌, ◌-◌, ◌*◌, ◌<◌, ◌≤◌, List, [], ◌∷◌, length, Ok, Err, Result, sym, refl, ap, ◌∙◌, add-zero, mul-zero, arith}
+use Rattle.std.proofs.Common.{◌≡◌, ℕ, suc, ◌+◌, ◌-◌, ◌*◌, ◌<◌, ◌≤◌, List, [], ◌∷◌, length, Ok, Err, Result, sym, refl, ap, ◌∙◌, arith}
 use Rattle.faults.specs.declared.fault.Fault.{Fault}
 use Rattle.faults.specs.Faults.{then}
 use Rattle.octets.specs.declared.endian.Endian.{Endian}
 use Rattle.entries.specs.declared.entry.Directory.{Directory}
 use Rattle.entries.specs.declared.entry.Entry.{Entry}
 use Rattle.entries.specs.declared.fields.Fields.{Fields}
-use Rattle.entries.specs.Entries.{accepted, entry_at, entries_from, entries_of, scanned}
+use Rattle.entries.specs.Entries.{accepted, entry_at, entries_from, scanned}
 use Rattle.entries.specs.Fields.{gathered_from, gathered, no_fields, fielded}
 
 -- the entries from the i-th on are that one and those after it

@@ -1,25 +1,24 @@
 -- The entries of a draft, tag by tag.
-use Rattle.std.proofs.Common.{◌≡◌, ℕ, zero, suc, ◌+◌, ◌-◌, ◌*◌, ◌/◌, ◌%◌, ◌<◌, ◌≤◌, Bool, true, false, cond, eqb, leb, List, [], ◌∷◌, ◌++◌, length, get_or, sym, refl, ap, ◌∙◌, subst, ap₂, ⊎_elim, arith}
+use Rattle.std.proofs.Common.{◌≡◌, ℕ, zero, suc, ◌+◌, ◌-◌, ◌*◌, ◌/◌, ◌%◌, ◌<◌, Bool, true, false, cond, eqb, leb, List, [], ◌∷◌, ◌++◌, length, get_or, sym, refl, ap, ◌∙◌, ap₂, ⊎_elim, arith}
 use Rattle.std.specs.List.{flat_map}
-use Rattle.std.proofs.lemmas.List.{get_or_append_left, get_or-append_right, length-append}
+use Rattle.std.proofs.lemmas.List.{get_or_append_left, get_or-append_right}
 use Rattle.std.proofs.lemmas.List.FromFn.{length-map-range_with_len}
-use Rattle.std.proofs.lemmas.Bool.{cases_lt, cond-true, cond-false, le-leb, lt-leb}
+use Rattle.std.proofs.lemmas.Bool.{cases_lt, cond-true, cond-false, lt-leb}
 use Rattle.octets.specs.declared.endian.Endian.{Endian}
 use Rattle.octets.specs.Numbers.{number_bytes}
 use Rattle.octets.specs.Rows.{byte, tabulate}
 use Rattle.raster.specs.Picture.{number_of}
 use Rattle.plans.specs.declared.outline.Outline.{Outline}
 use Rattle.plans.specs.Outlines.{segments_in, segment_size, directory_size, bits_size, longs_size, head_size}
-use Rattle.plans.specs.Directories.{Field, shorts, longs, rational, inline, value_bytes, entry_bytes, outer_size, entries_bytes}
+use Rattle.plans.specs.Directories.{Field, shorts, longs, rational, inline, entry_bytes, outer_size, entries_bytes}
 use Rattle.plans.specs.Blocks.{sample_bits, offsets_from, byte_counts, fields_by}
 use Rattle.blocks.proofs.Fields.{outer_bits, outer_table}
 use Rattle.heads.specs.declared.contents.Content.{Content}
 use Rattle.heads.specs.declared.contents.Content.TheVariants.{Short, Long, Shorts, Longs, Rational}
 use Rattle.heads.specs.declared.tags.Tag.{Tag}
-use Rattle.heads.specs.declared.tags.Tag.TheVariants.{BitsPerSample}
-use Rattle.heads.specs.Contents.{kind_of, count_of, last_of, entry_of}
+use Rattle.heads.specs.Contents.{entry_of}
 use Rattle.heads.specs.Tags.{tag_number, tags_of, count, tag_at}
-use Rattle.heads.specs.Values.{bits_at, offsets_at, counts_at, ratios_at, offset_of, one_each, content_of}
+use Rattle.heads.specs.Values.{bits_at, offsets_at, counts_at, ratios_at, one_each, content_of}
 
 -- the entry of each form of field
 short_entry : (o : Endian) (out tag v : ℕ) → entry_bytes o out (shorts tag (v ∷ [])) ≡ entry_of o tag (Short v)

@@ -1,9 +1,9 @@
 -- The values after a draft's directory, byte by byte.
-use Rattle.std.proofs.Common.{◌≡◌, ℕ, zero, suc, ◌+◌, ◌-◌, ◌*◌, ◌/◌, ◌%◌, ◌<◌, ◌≤◌, Bool, true, false, cond, eqb, leb, List, [], ◌∷◌, ◌++◌, length, get_or, sym, refl, ap, ◌∙◌, subst, ap₂, ⊎_elim, mod-lt, div-lt_iff_lt-mul, div-add-mod', arith}
+use Rattle.std.proofs.Common.{◌≡◌, ℕ, zero, suc, ◌+◌, ◌-◌, ◌*◌, ◌/◌, ◌%◌, ◌<◌, ◌≤◌, Bool, true, false, cond, eqb, leb, List, [], ◌∷◌, ◌++◌, length, get_or, sym, refl, ap, ◌∙◌, ⊎_elim, mod-lt, div-lt_iff_lt-mul, div-add-mod', arith}
 use Rattle.std.specs.List.{flat_map}
 use Rattle.std.proofs.lemmas.List.{get_or_append_left, get_or-append_right}
 use Rattle.std.proofs.lemmas.List.FromFn.{length-map-range_with_len, get_or-map-range_with_len}
-use Rattle.std.proofs.lemmas.Bool.{cases_lt, cond-true, cond-false, cond_both, leb-true, leb-false, le-leb, lt-leb}
+use Rattle.std.proofs.lemmas.Bool.{cases_lt, cond-true, cond-false, cond_both, leb-false, lt-leb}
 use Rattle.octets.specs.declared.endian.Endian.{Endian}
 use Rattle.octets.specs.Digits.{byte_of}
 use Rattle.octets.specs.Numbers.{number_bytes}
@@ -11,11 +11,11 @@ use Rattle.octets.specs.Rows.{byte, tabulate}
 use Rattle.raster.specs.Picture.{number_of}
 use Rattle.plans.specs.declared.outline.Outline.{Outline}
 use Rattle.plans.specs.Outlines.{segments_in, segment_size, bits_size, longs_size, head_size}
-use Rattle.plans.specs.Directories.{Field, shorts, longs, rational, inline, value_bytes, outer_bytes, outer_size}
+use Rattle.plans.specs.Directories.{shorts, longs, rational, inline, value_bytes, outer_bytes}
 use Rattle.plans.specs.Blocks.{sample_bits, offsets_from, byte_counts, fields_by}
-use Rattle.blocks.proofs.Numbers.{length_number_bytes, length_numbers, number_here}
+use Rattle.blocks.proofs.Numbers.{length_number_bytes, number_here}
 use Rattle.blocks.proofs.Chains.{holds_self}
-use Rattle.blocks.proofs.Directory.{Sized, length_outer}
+use Rattle.blocks.proofs.Directory.{length_outer}
 use Rattle.blocks.proofs.Fields.{outer_bits, outer_table}
 use Rattle.heads.specs.Values.{bits_at, offsets_at, counts_at, ratios_at, offset_of}
 use Rattle.heads.proofs.Shifts.{number_byte}

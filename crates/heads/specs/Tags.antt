@@ -1,5 +1,5 @@
 -- The tags of a draft's directory. Assumes nothing.
-use Rattle.std.specs.Prelude.{ℕ, Bool, true, false, cond, List, [], ◌∷◌, length, slice_index_or}
+use Rattle.std.specs.Prelude.{ℕ, Bool, true, false, cond, List, [], ◌∷◌, slice_index_or}
 use Rattle.heads.specs.declared.tags.Tag.{Tag}
 use Rattle.heads.specs.declared.tags.Tag.TheVariants.{ImageWidth, ImageLength, BitsPerSample, Compression, Photometric, StripOffsets, SamplesPerPixel, RowsPerStrip, StripByteCounts, XResolution, YResolution, ResolutionUnit, TileWidth, TileLength, TileOffsets, TileByteCounts}
 

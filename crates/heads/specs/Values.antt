@@ -1,5 +1,5 @@
 -- What the entries of a draft say, and where the values after its directory stand. Assumes nothing.
-use Rattle.std.specs.Prelude.{ℕ, ◌+◌, ◌*◌, Bool, true, false, cond, ◌==◌, nat_le}
+use Rattle.std.specs.Prelude.{ℕ, ◌+◌, ◌*◌, cond, ◌==◌, nat_le}
 use Rattle.raster.specs.Picture.{number_of}
 use Rattle.pages.specs.Geometry.{samples_of}
 use Rattle.plans.specs.declared.outline.Outline.{Outline}

@@ -1,16 +1,14 @@
 -- What a change of one slot, and of the sector below it, comes to. Assumes nothing.
-use Rattle.std.proofs.Common.{◌≡◌, ℕ, zero, suc, ◌+◌, ◌-◌, ◌*◌, ◌/◌, ◌%◌, ◌^◌, ◌<◌, ◌≤◌, min, Bool, true, false, cond, eqb, ◌⊎◌, List, [], ◌∷◌, ◌++◌, map, length, get_or, take, drop, set, Some, None, Ok, Err, Option, Result, sym, refl, ap, ◌∙◌, subst, inl, inr, ⊎_elim, arith, length-set, length-take, take-add}
-use Rattle.std.proofs.lemmas.List.{ext_get_or, get_or_append_left, get_or-append_right, length-append, length-take-le, get_or-drop, length-drop, get_or-take, get_or-set_same, get_or-set_other, get_or_default, nil_from_length, take_all, drop-drop}
-use Rattle.std.proofs.lemmas.Bool.{cases_Bool, cases_lt, cases_eq, eq-eqb, ne_eqb, eqb-true, eqb-false, false≢true, both_ways, cond-true, cond-false}
-use borrow.Rule.Slice.PartMut.{put_mid}
+use Rattle.std.proofs.Common.{◌≡◌, ℕ, zero, suc, ◌+◌, ◌-◌, ◌*◌, ◌/◌, ◌%◌, ◌<◌, ◌≤◌, true, false, eqb, ◌⊎◌, List, [], ◌∷◌, length, get_or, take, drop, set, Some, None, Option, sym, refl, ap, ◌∙◌, inl, inr, ⊎_elim, arith, length-take}
+use Rattle.std.proofs.lemmas.List.{ext_get_or, length-take-le, get_or-drop, length-drop, get_or-take, get_or-set_same, get_or-set_other, get_or_default}
+use Rattle.std.proofs.lemmas.Bool.{cases_Bool, cases_lt, cases_eq, eq-eqb, ne_eqb, eqb-true, false≢true, both_ways, cond-true, cond-false}
 use Rattle.hold.specs.declared.slots.Slot.{Slot}
 use Rattle.octets.specs.Sectors.{sector, patched, laid, In, Lists, Touched}
 use Rattle.std.specs.List.{AllByRecursion as All}
-use Rattle.faults.specs.declared.fault.Fault.{Fault}
-use Rattle.store.specs.Rules.{NoGain, Gain, Gained, Alone, Answered, written, filled, Grown}
+use Rattle.store.specs.Rules.{NoGain, Gain, Alone, Grown}
 use Rattle.hold.specs.Kept.{tagged, kept, slot_of, OneInEight, over, byte, overlaid, with_kept, Quiet, Put}
 use Rattle.hold.specs.KeptLaws.{length_overlaid, get_or_overlaid, byte_kept, byte_below, sector_below, with_seen, with_cases, with_below, with_free}
-use Rattle.octets.proofs.Patches.{length_patched, get_or_patched_below, get_or_patched_in, get_or_patched_above, patched_same, sector_untouched}
+use Rattle.octets.proofs.Patches.{length_patched, patched_same, sector_untouched}
 use Rattle.octets.proofs.Contents.{in_same}
 use Rattle.octets.proofs.Laid.{none_patched, length_laid, laid_out_lem, laid_in, patched_out, patched_more, sectors_alike}
 use Rattle.store.proofs.Changes.{touched_or, nogain_trans, grown_more}

@@ -1,15 +1,14 @@
 -- What the calls of a holder come to.
-use Rattle.std.proofs.Common.{◌≡◌, ℕ, ◌+◌, ◌<◌, ◌≤◌, Bool, true, false, cond, List, length, Some, None, Ok, Err, Option, Result, sym, refl, ap, ◌∙◌, subst, arith}
+use Rattle.std.proofs.Common.{◌≡◌, ℕ, ◌+◌, ◌≤◌, true, cond, List, length, Some, None, Ok, Err, Option, Result, sym, refl, ap, ◌∙◌, subst, arith}
 use Rattle.faults.specs.declared.fault.Fault.{Fault}
 use Rattle.octets.specs.Sectors.{Lists}
 use Rattle.octets.specs.declared.endian.Endian.{Endian}
 use Rattle.octets.specs.declared.endian.Endian.TheVariants.{Little, Big}
-use Rattle.store.specs.Rules.{Laws, NoGain}
+use Rattle.store.specs.Rules.{Laws}
 use Rattle.pages.specs.declared.layout.Layout.{Layout}
 use Rattle.plans.specs.Blocks.{header}
 use Rattle.drafts.specs.declared.state.Draft.{Draft}
-use Rattle.drafts.specs.declared.state.Stage.{Stage}
-use Rattle.drafts.specs.declared.state.Stage.TheVariants.{Begun, Carried, Rested, Switched}
+use Rattle.drafts.specs.declared.state.Stage.TheVariants.{Carried, Rested, Switched}
 use Rattle.drafts.specs.declared.call.Call.TheVariants.{Rest, Switch}
 use Rattle.drafts.specs.declared.call.Reply.TheVariants.{Done}
 use Rattle.drafts.specs.Mem.{Mem, mem_of, Lawful, Quiet, Settled}

@@ -1,32 +1,27 @@
 -- What `carry` comes to.
-use Rattle.std.proofs.Common.{◌≡◌, ℕ, ◌+◌, ◌-◌, ◌*◌, ◌/◌, ◌^◌, ◌<◌, ◌≤◌, min, Bool, true, false, cond, List, ◌++◌, length, take, drop, Some, None, Ok, Err, Option, Result, sym, refl, ap, ◌∙◌, subst, inl, inr, ⊎_elim, arith}
+use Rattle.std.proofs.Common.{◌≡◌, ℕ, ◌+◌, ◌-◌, ◌*◌, ◌<◌, ◌≤◌, true, List, length, take, drop, Some, None, Ok, Err, Option, Result, sym, refl, ap, ◌∙◌, subst, inl, inr, ⊎_elim, arith}
 use Rattle.std.proofs.lemmas.List.{take_at, length-append}
 use Rattle.faults.specs.declared.fault.Fault.{Fault}
 use Rattle.octets.specs.Sectors.{sector, patched, Lists}
 use Rattle.octets.proofs.Patches.{length_sector}
 use Rattle.store.specs.Rules.{NoGain, Gain, Answered, written, Gained}
-use Rattle.raster.specs.Picture.{Picture, Sound}
+use Rattle.raster.specs.Picture.{Picture}
 use Rattle.pages.specs.declared.layout.Layout.{Layout}
 use Rattle.stored.specs.Sane.{sane}
 use Rattle.stored.specs.Soundness.{picture_sound}
 use Rattle.stored.specs.Pixels.{picture_of}
 use Rattle.stored.specs.declared.page.Page.{Page}
-use Rattle.plans.specs.declared.view.View.{View}
-use Rattle.plans.specs.declared.plan.Plan.{Plan}
-use Rattle.plans.specs.Views.{viewed, shows}
-use Rattle.plans.specs.Outlines.{Proper, segments_in, block_size}
-use Rattle.plans.specs.Blocks.{block}
+use Rattle.plans.specs.Views.{viewed}
 use Rattle.blocks.proofs.Places.{length_block}
 use Rattle.writer.specs.Drafts.{draft_sector}
 use Rattle.writer.proofs.Drafted.{draft_made, made_proper}
 use Rattle.drafts.specs.declared.state.Draft.{Draft}
-use Rattle.drafts.specs.declared.state.Stage.{Stage}
 use Rattle.drafts.specs.declared.state.Stage.TheVariants.{Begun}
 use Rattle.drafts.specs.declared.call.Call.TheVariants.{Carry}
 use Rattle.drafts.specs.declared.call.Reply.TheVariants.{Number}
 use Rattle.drafts.specs.Mem.{Mem, Quiet}
 use Rattle.drafts.specs.Wrote.{Wrote}
-use Rattle.drafts.specs.Steps.{Held, held, world, Step, Fitting, sized_for, sectors, size_of, size_by, outline_of, block_of, shown_of, stage_of, staged, next_stage, carry_answer, carry_held, carry_draft, carry_write, carry_write_by, write}
+use Rattle.drafts.specs.Steps.{Held, held, world, Step, Fitting, sized_for, sectors, size_of, size_by, outline_of, block_of, shown_of, stage_of, staged, next_stage, carry_answer, carry_held, carry_draft, carry_write, carry_write_by}
 use Rattle.drafts.proofs.Stepping.{quiet_then, wrote_step}
 use Rattle.holder.specs.Told.{WroteBy}
 use Rattle.holder.specs.Worlds.{layout_in}

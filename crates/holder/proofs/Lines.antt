@@ -1,9 +1,7 @@
 -- The lines of a run that are answered so far.
-use Rattle.std.proofs.Common.{◌≡◌, ℕ, zero, suc, ◌+◌, ◌<◌, ◌≤◌, List, [], ◌∷◌, ◌++◌, map, length, get_or, take, drop, set, sym, refl, ap, ◌∙◌, subst, add-one, arith}
+use Rattle.std.proofs.Common.{◌≡◌, ℕ, zero, suc, ◌+◌, ◌<◌, List, [], ◌∷◌, ◌++◌, map, length, get_or, take, drop, set, sym, refl, ap, ◌∙◌, add-one, arith}
 use Rattle.std.proofs.lemmas.List.{length-drop, drop-drop}
-use Rattle.drafts.specs.declared.call.Call.{Call}
 use Rattle.holder.specs.declared.replay.Line.{Line}
-use Rattle.law.specs.Run.{Line as RunLine}
 use Rattle.holder.specs.Lines.{line_of, lines_of}
 
 -- of the lines sent, the first i are answered, each with the call that was sent, and the others are as they were

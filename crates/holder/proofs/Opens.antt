@@ -1,6 +1,6 @@
 -- What `open`, `begin` and `keep` come to.
-use Rattle.std.proofs.Common.{◌≡◌, ℕ, Bool, true, false, cond, not, eqb, ltb, List, is_some, Some, None, Ok, Err, Option, Result, sym, refl, ap, ◌∙◌, subst, true≢false, arith}
-use Rattle.faults.specs.declared.fault.Check.TheVariants.{Busy, Closed, Pages, View as ViewCheck, Many, Space}
+use Rattle.std.proofs.Common.{◌≡◌, ℕ, true, false, cond, not, eqb, ltb, List, is_some, Some, None, Ok, Err, Option, Result, sym, refl, ap, ◌∙◌, true≢false}
+use Rattle.faults.specs.declared.fault.Check.TheVariants.{Busy, Pages, View as ViewCheck, Many}
 use Rattle.faults.specs.declared.fault.Fault.{Fault}
 use Rattle.faults.specs.Faults.{bare, refused, then}
 use Rattle.links.proofs.Chaining.{passed}
@@ -19,7 +19,7 @@ use Rattle.drafts.specs.declared.state.Stage.TheVariants.{Switched}
 use Rattle.drafts.specs.declared.call.Call.TheVariants.{Open, Begin, Keep}
 use Rattle.drafts.specs.declared.call.Reply.TheVariants.{Done, Number}
 use Rattle.drafts.specs.Mem.{Mem, Lawful, Quiet, Settled}
-use Rattle.drafts.specs.Steps.{Held, held, world, Step, Answer, sized, shown_of, open_answer, open_held, spaced, sized_for, room_for, place_by, draft_at, begin_answer, begin_held, outline_by, sectors, width_of, height_of, stage_of, is_switched, allowed, ok_of, turn_of, kept_held}
+use Rattle.drafts.specs.Steps.{Held, held, world, Step, sized, shown_of, open_answer, open_held, spaced, sized_for, room_for, place_by, draft_at, begin_answer, begin_held, outline_by, sectors, width_of, height_of, stage_of, is_switched, allowed, ok_of, turn_of, kept_held}
 use Rattle.drafts.proofs.Stepping.{quiet_step, settled_step}
 use Rattle.holder.specs.Worlds.{layout_in}
 

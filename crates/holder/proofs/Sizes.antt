@@ -1,13 +1,10 @@
 -- The size of a draft.
-use Rattle.std.proofs.Common.{◌≡◌, ℕ, ◌+◌, ◌<◌, ◌≤◌, min, Bool, true, false, cond, not, ◌&&◌, ltb, leb, Ok, Err, Result, sym, refl, ap, ◌∙◌, subst, true≢false, arith}
+use Rattle.std.proofs.Common.{◌≡◌, ℕ, ◌+◌, ◌<◌, ◌≤◌, min, Bool, true, false, cond, not, ◌&&◌, ltb, leb, Ok, Err, Result, refl, ap, ◌∙◌, true≢false, arith}
 use Rattle.std.proofs.lemmas.Bool.{and_parts, ltb-true, leb-true, le-leb, lt-ltb, le-ltb}
 use Rattle.faults.specs.declared.fault.Fault.{Fault}
 use Rattle.faults.specs.declared.fault.Check.TheVariants.{Many, View as ViewCheck}
 use Rattle.faults.specs.Faults.{bare, refused}
 use Rattle.links.proofs.Chaining.{passed}
-use Rattle.octets.specs.declared.endian.Endian.{Endian}
-use Rattle.raster.specs.declared.grid.Kind.{Kind}
-use Rattle.raster.specs.Picture.{allowed}
 use Rattle.raster.specs.Views.{swaps}
 use Rattle.pages.specs.declared.layout.Layout.{Layout}
 use Rattle.pages.specs.Pages.{between}
@@ -16,7 +13,7 @@ use Rattle.plans.specs.declared.plan.Plan.{Plan}
 use Rattle.plans.specs.declared.view.View.{View}
 use Rattle.plans.specs.Limits.{limited}
 use Rattle.plans.specs.Views.{fits_in, shows_in, view_checked, view_width, view_height}
-use Rattle.plans.specs.Outlines.{Proper, Spans, segments_in, block_size, outlined, cut_by}
+use Rattle.plans.specs.Outlines.{Proper, Spans, segments_in, block_size, cut_by}
 use Rattle.drafts.specs.Steps.{sized_for, outline_by, width_of, height_of}
 
 -- an accepted view

@@ -1,14 +1,12 @@
 -- A holder is a grid: its picture is sound, and a question keeps what it has in mind. Assumes nothing.
-use Rattle.std.specs.Prelude.{◌≡◌, ℕ, List, Some, None, Option, refl}
+use Rattle.std.specs.Prelude.{ℕ, List, Some, None, Option, refl}
 use Rattle.std.proofs.Common.{◌∙◌}
 use Rattle.octets.specs.Sectors.{Lists}
-use Rattle.store.specs.Rules.{NoGain}
 use Rattle.raster.specs.Picture.{Sound}
 use Rattle.raster.specs.Soundness.{empty_sound}
 use Rattle.raster.specs.Kept.{Kept}
 use Rattle.stored.specs.declared.page.Page.{Page}
 use Rattle.stored.specs.Soundness.{picture_sound}
-use Rattle.drafts.specs.Mem.{Mem, mem_of, Quiet}
 use Rattle.drafts.specs.Steps.{shown_of}
 use Rattle.holder.specs.declared.holder.Holder.{Holder}
 use Rattle.holder.specs.Worlds.{layout_in, picture_by, KeptBy}

@@ -10,7 +10,7 @@ use Rattle.stored.specs.declared.page.Page.{Page}
 use Rattle.plans.specs.declared.plan.Plan.{Plan}
 use Rattle.plans.specs.declared.view.View.{View}
 use Rattle.drafts.specs.declared.state.State.{State}
-use Rattle.drafts.specs.Mem.{Mem, mem_of, Quiet}
+use Rattle.drafts.specs.Mem.{mem_of, Quiet}
 use Rattle.drafts.specs.Steps.{Held, World, world, held, picture_in, Answer, sized, sized_for}
 use Rattle.holder.specs.declared.holder.Holder.{Holder}
 

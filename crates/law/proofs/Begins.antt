@@ -1,15 +1,14 @@
 -- `begin` keeps what holds between calls.
-use Rattle.std.proofs.Common.{◌≡◌, ℕ, ◌+◌, ◌*◌, ◌^◌, ◌<◌, ◌≤◌, Bool, true, false, cond, not, eqb, ltb, List, length, Some, None, Ok, Err, Option, Result, sym, refl, ap, ◌∙◌, subst, true≢false, arith}
+use Rattle.std.proofs.Common.{◌≡◌, ℕ, ◌<◌, ◌≤◌, true, not, eqb, ltb, List, length, Some, None, Ok, Err, Option, Result, sym, refl, ap, ◌∙◌, subst, arith}
 use Rattle.std.proofs.lemmas.Bool.{not-false, eqb-true, ltb-false}
 use Rattle.faults.specs.declared.fault.Fault.{Fault}
-use Rattle.faults.specs.declared.fault.Check.TheVariants.{Busy, Closed as ClosedCheck, Pages, View as ViewCheck, Many, Space}
+use Rattle.faults.specs.declared.fault.Check.TheVariants.{Busy, Closed as ClosedCheck, Pages, View as ViewCheck, Many}
 use Rattle.faults.specs.Faults.{bare, then}
 use Rattle.faults.specs.Faults as faults
 use Rattle.octets.specs.Sectors.{Lists}
 use Rattle.raster.specs.Picture.{Picture}
 use Rattle.links.proofs.Chaining.{passed, then_was}
 use Rattle.pages.specs.declared.layout.Layout.{Layout}
-use Rattle.pages.specs.Opening.{opened}
 use Rattle.pages.specs.Extents.{extents}
 use Rattle.stored.specs.Pixels.{picture_of}
 use Rattle.places.specs.Places.{place_of}
@@ -22,11 +21,11 @@ use Rattle.plans.specs.Views.{shows_in}
 use Rattle.plans.specs.Outlines.{segments_in, block_size}
 use Rattle.drafts.specs.declared.state.Draft.{Draft}
 use Rattle.drafts.specs.declared.call.Call.TheVariants.{Begin}
-use Rattle.drafts.specs.Steps.{Held, held, Answer, answer_of, held_of, spaced, sized_for, room_for, place_by, draft_at, begin_answer, begin_held, outline_by, sectors, size_of, width_of, height_of, ok_of}
-use Rattle.law.specs.Slate.{Slate, noted}
-use Rattle.law.specs.Book.{Book, book, laid_out, place_in, begun, due}
+use Rattle.drafts.specs.Steps.{Held, held, answer_of, held_of, spaced, sized_for, room_for, place_by, draft_at, begin_answer, begin_held, outline_by, size_of, width_of, height_of, ok_of}
+use Rattle.law.specs.Slate.{Slate}
+use Rattle.law.specs.Book.{book, laid_out, place_in, begun, due}
 use Rattle.law.proofs.Blocks.{Fits}
-use Rattle.law.proofs.Good.{Paged, Homed, Drafted, Lone, Closed, Showing, Good, At, Less, homed_less}
+use Rattle.law.proofs.Good.{Paged, Homed, Good, Less, homed_less}
 use Rattle.law.proofs.Outcomes.{Moves, Outcome, nothing_gained, refused}
 
 -- a page for whose draft there is room

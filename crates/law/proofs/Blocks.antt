@@ -1,6 +1,6 @@
 -- What bytes open as that hold the block of a draft.
-use Rattle.std.proofs.Common.{◌≡◌, ℕ, ◌+◌, ◌%◌, ◌^◌, ◌<◌, ◌≤◌, true, List, length, sym, refl, ap, ◌∙◌, subst}
-use Rattle.octets.specs.Rows.{byte, Holds}
+use Rattle.std.proofs.Common.{◌≡◌, ℕ, ◌+◌, ◌%◌, ◌^◌, ◌<◌, ◌≤◌, true, List, length, sym, subst}
+use Rattle.octets.specs.Rows.{Holds}
 use Rattle.raster.specs.Picture.{Picture, Sound}
 use Rattle.plans.specs.declared.outline.Outline.{Outline}
 use Rattle.plans.specs.Outlines.{segments_in, Proper}

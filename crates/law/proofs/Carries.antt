@@ -1,16 +1,16 @@
 -- `carry` keeps what holds between calls.
-use Rattle.std.proofs.Common.{◌≡◌, ℕ, zero, suc, ◌+◌, ◌-◌, ◌*◌, ◌/◌, ◌%◌, ◌^◌, ◌<◌, ◌≤◌, Bool, true, false, cond, ltb, ◌⊎◌, List, length, Some, None, Ok, Err, Option, Result, sym, refl, ap, ◌∙◌, subst, inl, inr, ⊎_elim, arith}
+use Rattle.std.proofs.Common.{◌≡◌, ℕ, zero, suc, ◌+◌, ◌-◌, ◌*◌, ◌^◌, ◌<◌, ◌≤◌, Bool, true, false, cond, ltb, ◌⊎◌, List, length, Some, None, Ok, Option, sym, refl, ap, ◌∙◌, subst, inl, inr, ⊎_elim, arith}
 use Rattle.std.proofs.lemmas.Bool.{cases_lt, ltb-true, ltb-false}
 use Rattle.faults.specs.declared.fault.Check.TheVariants.{Stage as StageCheck}
 use Rattle.faults.specs.Faults.{bare}
 use Rattle.octets.specs.Rows.{byte}
-use Rattle.octets.specs.Sectors.{sector, patched, In, Lists}
+use Rattle.octets.specs.Sectors.{sector, patched, Lists}
 use Rattle.octets.proofs.Patches.{length_patched, length_sector, get_or_sector, get_or_patched_in}
 use Rattle.raster.specs.Picture.{Picture, Sound as SoundPicture}
 use Rattle.pages.specs.declared.layout.Layout.{Layout}
 use Rattle.pages.specs.Opening.{opened}
 use Rattle.pages.specs.Extents.{Span, extents, Covered}
-use Rattle.stored.specs.Pixels.{picture_of, shown}
+use Rattle.stored.specs.Pixels.{picture_of}
 use Rattle.places.specs.Lowest.{Clear}
 use Rattle.rules.proofs.Locality.{page_local, page_stands}
 use Rattle.plans.specs.declared.plan.Plan.{Plan}
@@ -20,13 +20,13 @@ use Rattle.drafts.specs.declared.state.Stage.{Stage}
 use Rattle.drafts.specs.declared.state.Stage.TheVariants.{Begun, Carried, Rested, Switched}
 use Rattle.drafts.specs.declared.call.Call.TheVariants.{Carry}
 use Rattle.drafts.specs.declared.call.Reply.TheVariants.{Number}
-use Rattle.drafts.specs.Steps.{Held, held, Answer, Write, write, answer_of, held_of, bytes_of, bytes_by, lays_by, sectors, size_of, block_of, staged, next_stage, picture_in}
+use Rattle.drafts.specs.Steps.{Held, held, write, answer_of, held_of, bytes_of, sectors, size_of, block_of, staged, next_stage}
 use Rattle.law.specs.Slate.{Slate, listed}
-use Rattle.law.specs.Book.{Book, book}
-use Rattle.law.proofs.Firm.{Firm, Gains, firm_as, firm_after}
+use Rattle.law.specs.Book.{book}
+use Rattle.law.proofs.Firm.{Gains, firm_as, firm_after}
 use Rattle.law.proofs.Pages.{Matters, only_page, shown_of_lem, other_page, SamePage, same_page}
 use Rattle.law.proofs.Blocks.{Fits, length_block_of}
-use Rattle.law.proofs.Good.{Ledger, Paged, Homed, Drafted, Lone, Out, Showing, Good, At, sound_is}
+use Rattle.law.proofs.Good.{Ledger, Paged, Homed, Drafted, Lone, Out, Good, sound_is}
 use Rattle.law.proofs.Founds.{dr, some_carry, carry_outside, carry_within, carry_apart}
 use Rattle.law.proofs.Outcomes.{Moves, Outcome, nothing_gained, refused}
 use Rattle.law.proofs.Opens.{drafted_staged, closed_never}

@@ -1,5 +1,5 @@
 -- What is found where power ends shows the page.
-use Rattle.std.proofs.Common.{◌≡◌, ℕ, ◌+◌, ◌-◌, ◌*◌, ◌/◌, ◌%◌, ◌^◌, ◌<◌, ◌≤◌, Bool, true, false, cond, ◌⊎◌, List, [], ◌∷◌, length, Some, None, Ok, Option, sym, refl, ap, ◌∙◌, subst, inl, inr, ⊎_elim, true≢false, arith}
+use Rattle.std.proofs.Common.{◌≡◌, ℕ, ◌+◌, ◌-◌, ◌*◌, ◌/◌, ◌%◌, ◌^◌, ◌<◌, ◌≤◌, Bool, true, false, cond, ◌⊎◌, List, length, Some, None, Ok, Option, sym, refl, ap, ◌∙◌, subst, inl, inr, ⊎_elim, true≢false, arith}
 use Rattle.std.proofs.lemmas.Bool.{cases_lt}
 use Rattle.octets.specs.declared.endian.Endian.{Endian}
 use Rattle.octets.specs.declared.endian.Endian.TheVariants.{Little, Big}
@@ -9,9 +9,7 @@ use Rattle.octets.proofs.Patches.{get_or_sector, get_or_patched_in, get_or_patch
 use Rattle.store.specs.Power.{Cut, write_lays}
 use Rattle.raster.specs.Picture.{Picture, Sound as SoundPicture}
 use Rattle.pages.specs.declared.layout.Layout.{Layout}
-use Rattle.pages.specs.Opening.{opened}
-use Rattle.pages.specs.Extents.{extents, Covered}
-use Rattle.stored.specs.Pixels.{picture_of, shown}
+use Rattle.stored.specs.Pixels.{picture_of}
 use Rattle.plans.specs.declared.plan.Plan.{Plan}
 use Rattle.plans.specs.declared.view.View.{View}
 use Rattle.plans.specs.Views.{shows}
@@ -22,13 +20,13 @@ use Rattle.drafts.specs.declared.state.Stage.TheVariants.{Begun, Carried, Rested
 use Rattle.drafts.specs.declared.call.Call.{Call}
 use Rattle.drafts.specs.declared.call.Call.TheVariants.{Open, Pixel, Window, Arrow, Begin, Carry, Rest, Switch, Keep, Scrap}
 use Rattle.drafts.specs.Mem.{Mem}
-use Rattle.drafts.specs.Steps.{Held, Write, write, bytes_by, lays_by, sectors, size_of, block_of, carry_write, carry_write_by, switch_write, switch_write_by}
-use Rattle.law.specs.Slate.{Slate, listed, picture_by}
-use Rattle.law.specs.Book.{Book, book, write_under, under, is_switch, switching, Led, SwitchedOver, AcceptedAs, Safe}
-use Rattle.law.proofs.Firm.{Firm, sector_byte, in_lays, laid_byte, found_byte}
+use Rattle.drafts.specs.Steps.{Held, Write, write, bytes_by, lays_by, sectors, size_of, block_of, carry_write_by, switch_write_by}
+use Rattle.law.specs.Slate.{Slate, picture_by}
+use Rattle.law.specs.Book.{Book, book, write_under, under, is_switch, switching, AcceptedAs, Safe}
+use Rattle.law.proofs.Firm.{Firm, sector_byte, in_lays, found_byte}
 use Rattle.law.proofs.Pages.{Matters, only_page, shown_of_lem, SamePage, same_page}
 use Rattle.law.proofs.Blocks.{Fits, length_block_of, draft_opens}
-use Rattle.law.proofs.Good.{Paged, Homed, Drafted, Lone, Rests, Moved, Out, Phase, Closed, Showing, Good, At, book_is, sound_is}
+use Rattle.law.proofs.Good.{Paged, Homed, Drafted, Lone, Rests, Out, Showing, At, book_is, sound_is}
 
 -- the header's bytes
 

@@ -1,11 +1,11 @@
 -- What holds between the calls of a run: how what a holder keeps in mind, the bytes seen, the may lists and the slate fit together.
-use Rattle.std.proofs.Common.{◌≡◌, ℕ, ◌+◌, ◌*◌, ◌^◌, ◌<◌, ◌≤◌, Bool, true, false, ◌⊎◌, List, length, Some, None, Ok, Err, Option, Result, sym, refl, ap, ◌∙◌, subst, inl, inr, ⊎_elim, arith}
+use Rattle.std.proofs.Common.{◌≡◌, ℕ, ◌+◌, ◌*◌, ◌^◌, ◌<◌, ◌≤◌, ◌⊎◌, List, length, Some, None, Ok, Option, sym, subst, arith}
 use Rattle.octets.specs.Rows.{byte, Holds}
 use Rattle.octets.specs.Sectors.{sector, In, Lists}
 use Rattle.raster.specs.Picture.{Picture, empty, Sound as SoundPicture}
 use Rattle.pages.specs.declared.layout.Layout.{Layout}
 use Rattle.pages.specs.Opening.{opened}
-use Rattle.pages.specs.Extents.{extents, Covered}
+use Rattle.pages.specs.Extents.{extents}
 use Rattle.stored.specs.Pixels.{picture_of, shown}
 use Rattle.stored.proofs.Local.{pages_whole}
 use Rattle.places.specs.Lowest.{Clear}
@@ -14,7 +14,7 @@ use Rattle.drafts.specs.declared.state.Draft.{Draft}
 use Rattle.drafts.specs.declared.state.Stage.{Stage}
 use Rattle.drafts.specs.declared.state.Stage.TheVariants.{Begun, Carried, Rested, Switched}
 use Rattle.drafts.specs.Mem.{Mem}
-use Rattle.drafts.specs.Steps.{Held, world, sectors, size_of, block_of, staged, picture_in, shown_of, Sound, Steady, Under, Fitting}
+use Rattle.drafts.specs.Steps.{Held, world, sectors, size_of, block_of, picture_in, shown_of, Sound, Steady, Under, Fitting}
 use Rattle.law.specs.Slate.{Slate, listed}
 use Rattle.law.specs.Book.{Book, book}
 use Rattle.law.proofs.Firm.{Firm}

@@ -1,12 +1,11 @@
 -- The picture of an accepted page does not depend on the header.
-use Rattle.std.proofs.Common.{◌≡◌, ℕ, ◌+◌, ◌-◌, ◌*◌, ◌%◌, ◌<◌, ◌≤◌, true, ◌⊎◌, List, [], ◌∷◌, length, get_or, is_some, Some, None, Ok, Option, sym, refl, ap, ◌∙◌, subst, inl, inr, ⊎_elim, true≢false, arith}
+use Rattle.std.proofs.Common.{◌≡◌, ℕ, ◌+◌, ◌-◌, ◌*◌, ◌%◌, ◌<◌, ◌≤◌, true, List, [], ◌∷◌, length, get_or, is_some, Some, None, Ok, Option, sym, refl, ap, ◌∙◌, subst, ⊎_elim, true≢false, arith}
 use Rattle.std.specs.List.{AllByRecursion as All}
 use Rattle.std.proofs.lemmas.Bool.{cases_lt, cond_both}
 use Rattle.std.proofs.lemmas.List.{get_or-take}
 use Rattle.octets.specs.declared.endian.Endian.{Endian}
 use Rattle.octets.specs.Rows.{byte, per_byte}
 use Rattle.reads.specs.Agree.{Agree}
-use Rattle.raster.specs.Picture.{framed}
 use Rattle.raster.specs.Views.{turn_by}
 use Rattle.raster.proofs.Frames.{framed_same}
 use Rattle.links.specs.Links.{places_of}
@@ -19,7 +18,7 @@ use Rattle.entries.specs.declared.fields.Fields.{Fields}
 use Rattle.entries.specs.Entries.{directory_at, entries_of, shape_of, size}
 use Rattle.entries.specs.Fields.{gathered, numbers_of, number_at, sought}
 use Rattle.pages.specs.declared.layout.Layout.{Layout}
-use Rattle.pages.specs.Geometry.{samples_of, segments_of, needed}
+use Rattle.pages.specs.Geometry.{samples_of, segments_of}
 use Rattle.pages.specs.Pages.{tiled}
 use Rattle.pages.specs.Segments.{offset_of}
 use Rattle.pages.specs.Opening.{opened}
@@ -29,11 +28,11 @@ use Rattle.stored.specs.Sane.{Sane, sane_parts}
 use Rattle.stored.proofs.Accepted.{opened_sane}
 use Rattle.stored.proofs.Pixel.{pixel_from_lem}
 use Rattle.stored.proofs.Local.{pixel_agrees}
-use Rattle.stored.proofs.Within.{in_segments, in_needed}
-use Rattle.rules.specs.Rules.{EntryRules, table_in, fields_in}
+use Rattle.stored.proofs.Within.{in_segments}
+use Rattle.rules.specs.Rules.{EntryRules, table_in}
 use Rattle.rules.proofs.Fielding.{scanned_was}
 use Rattle.rules.proofs.Meeting.{Paged, page_was, Opened, opened_was}
-use Rattle.rules.proofs.Sharing.{entries_within, Within, Kept, Same, entry_shares, On, sought_on}
+use Rattle.rules.proofs.Sharing.{entries_within, Within, Same, entry_shares, On, sought_on}
 
 module _ (bs cs : List ℕ) (page : ℕ) (l : Layout) (accepted : opened bs page ≡ Ok l) (len : length cs ≡ length bs) (past : (i : ℕ) → 8 ≤ i → byte bs i ≡ byte cs i) where
   was : Opened bs page l

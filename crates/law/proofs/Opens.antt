@@ -1,14 +1,12 @@
 -- `open`, `rest` and `scrap` keep what holds between calls.
-use Rattle.std.proofs.Common.{◌≡◌, ℕ, ◌^◌, ◌<◌, ◌≤◌, Bool, true, false, cond, List, length, Some, None, Ok, Err, Option, Result, sym, refl, ap, ◌∙◌, subst, arith}
+use Rattle.std.proofs.Common.{◌≡◌, ℕ, ◌^◌, ◌<◌, List, length, Some, None, Ok, Err, Option, Result, sym, refl, ap, ◌∙◌, subst, arith}
 use Rattle.faults.specs.declared.fault.Fault.{Fault}
 use Rattle.faults.specs.declared.fault.Check.TheVariants.{Busy, Stage as StageCheck}
 use Rattle.faults.specs.Faults.{bare, then}
-use Rattle.octets.specs.Rows.{byte}
 use Rattle.octets.specs.Sectors.{Lists}
-use Rattle.raster.specs.Picture.{Picture}
 use Rattle.pages.specs.declared.layout.Layout.{Layout}
 use Rattle.pages.specs.Opening.{opened}
-use Rattle.stored.specs.Pixels.{picture_of, Shown, shown}
+use Rattle.stored.specs.Pixels.{picture_of, Shown}
 use Rattle.plans.specs.declared.plan.Plan.{Plan}
 use Rattle.plans.specs.declared.view.View.{View}
 use Rattle.drafts.specs.declared.state.Draft.{Draft}
@@ -16,13 +14,12 @@ use Rattle.drafts.specs.declared.state.Stage.{Stage}
 use Rattle.drafts.specs.declared.state.Stage.TheVariants.{Begun, Carried, Rested, Switched}
 use Rattle.drafts.specs.declared.call.Call.TheVariants.{Open, Rest, Scrap}
 use Rattle.drafts.specs.declared.call.Reply.TheVariants.{Done}
-use Rattle.drafts.specs.Steps.{Held, held, Answer, answer_of, held_of, open_answer, open_held, size_of, block_of, staged}
+use Rattle.drafts.specs.Steps.{Held, held, answer_of, held_of, open_answer, open_held, size_of, block_of, staged}
 use Rattle.law.specs.Slate.{Slate, listed, showing, noted}
-use Rattle.law.specs.Book.{Book, book, opened_by, fault_of, due}
-use Rattle.law.proofs.Firm.{Firm, firm_settled}
+use Rattle.law.specs.Book.{book, opened_by, fault_of}
+use Rattle.law.proofs.Firm.{firm_settled}
 use Rattle.law.proofs.Pages.{shown_of_lem}
-use Rattle.law.proofs.Blocks.{Fits}
-use Rattle.law.proofs.Good.{Ledger, Paged, Homed, Drafted, Lone, Rests, Out, Phase, Closed, Showing, Good, At, Less, homed_less, good_less}
+use Rattle.law.proofs.Good.{Ledger, Paged, Homed, Drafted, Closed, Showing, Good, At, Less, homed_less}
 use Rattle.law.proofs.Founds.{dr}
 use Rattle.law.proofs.Outcomes.{Moves, Outcome, nothing_gained, refused}
 

@@ -1,14 +1,14 @@
 -- What a call comes to: it is answered as is due, and what holds between calls still holds.
-use Rattle.std.proofs.Common.{◌≡◌, ℕ, ◌<◌, ◌≤◌, Bool, true, false, cond, ◌⊎◌, List, [], ◌∷◌, length, Some, None, Ok, Err, Option, Result, sym, refl, ap, ◌∙◌, subst, inl, inr, ⊎_elim}
+use Rattle.std.proofs.Common.{◌≡◌, ℕ, true, ◌⊎◌, List, Ok, Err, sym, refl, ap, subst, ⊎_elim}
 use Rattle.faults.specs.declared.fault.Fault.{Fault}
 use Rattle.octets.specs.Sectors.{sector, In, Lists}
 use Rattle.raster.specs.declared.grid.Area.{Area}
-use Rattle.raster.specs.Picture.{Picture, pixel_of}
+use Rattle.raster.specs.Picture.{pixel_of}
 use Rattle.netpbm.specs.Window.{window_answer}
 use Rattle.drafts.specs.declared.call.Call.{Call}
 use Rattle.drafts.specs.declared.call.Call.TheVariants.{Open, Pixel, Window, Arrow, Begin, Carry, Rest, Switch, Keep, Scrap}
 use Rattle.drafts.specs.declared.call.Reply.TheVariants.{Number}
-use Rattle.drafts.specs.Steps.{Held, Answer, number, answer_of, held_of, write_of, lays, settles, carry_write_by}
+use Rattle.drafts.specs.Steps.{Held, Answer, number, answer_of, write_of, lays, settles, carry_write_by}
 use Rattle.law.specs.Slate.{Slate}
 use Rattle.law.specs.Book.{Book, book, due, after, write_in}
 use Rattle.law.proofs.Good.{Good, At, Less, good_less, picture_is}

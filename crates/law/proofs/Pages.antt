@@ -1,5 +1,5 @@
 -- Pages of bytes that agree on what matters to them.
-use Rattle.std.proofs.Common.{◌≡◌, ℕ, zero, suc, ◌+◌, ◌<◌, ◌≤◌, Bool, true, false, ◌⊎◌, List, length, Some, None, Ok, Err, Option, Result, sym, refl, ap, ◌∙◌, subst, inl, inr, ⊎_elim, arith}
+use Rattle.std.proofs.Common.{◌≡◌, ℕ, ◌+◌, ◌<◌, ◌⊎◌, List, length, None, Ok, Err, Result, sym, refl, ap, ◌∙◌, subst, inl, inr, ⊎_elim, arith}
 use Rattle.std.proofs.lemmas.Bool.{cases_eq}
 use Rattle.std.proofs.lemmas.List.{ext_get_or}
 use Rattle.faults.specs.declared.fault.Fault.{Fault}
@@ -10,7 +10,7 @@ use Rattle.entries.specs.Entries.{directory_at}
 use Rattle.pages.specs.declared.layout.Layout.{Layout}
 use Rattle.pages.specs.Opening.{opened}
 use Rattle.pages.specs.Extents.{extents, Covered}
-use Rattle.stored.specs.Pixels.{picture_of, Shown, shown}
+use Rattle.stored.specs.Pixels.{picture_of, shown}
 use Rattle.stored.proofs.Local.{picture_local}
 use Rattle.rules.proofs.Meeting.{opened_was, page_was}
 use Rattle.rules.proofs.Locality.{page_stands, opening_local}

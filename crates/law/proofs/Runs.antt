@@ -1,12 +1,12 @@
 -- The law over a run, call by call.
-use Rattle.std.proofs.Common.{◌≡◌, ℕ, ◌^◌, ◌<◌, ◌⊎◌, List, [], ◌∷◌, ◌++◌, length, Some, None, Option, sym, refl, ap, ◌∙◌, subst, inl, inr, ⊎_elim, append_assoc, append-nil}
+use Rattle.std.proofs.Common.{◌≡◌, ℕ, ◌^◌, ◌<◌, ◌⊎◌, List, [], ◌∷◌, ◌++◌, length, Some, Option, sym, refl, ap, ◌∙◌, subst, inl, inr, ⊎_elim, append_assoc, append-nil}
 use Rattle.octets.specs.Sectors.{In, Lists}
 use Rattle.drafts.specs.declared.call.Call.{Call}
 use Rattle.drafts.specs.declared.call.Call.TheVariants.{Open, Pixel, Window, Arrow, Begin, Carry, Rest, Switch, Keep, Scrap}
-use Rattle.drafts.specs.Mem.{Mem, Lawful}
-use Rattle.drafts.specs.Steps.{Answer, Held, World, world, fresh, Step, Sound, Write, picture_in, answer_of, held_of, bytes_of, lays, lays_by}
+use Rattle.drafts.specs.Mem.{Mem}
+use Rattle.drafts.specs.Steps.{Answer, Held, World, world, fresh, Step, Sound, Write, answer_of, held_of, bytes_of, lays, lays_by}
 use Rattle.law.specs.Slate.{Slate}
-use Rattle.law.specs.Book.{Book, book, book_of, due, buffer_by, after, under}
+use Rattle.law.specs.Book.{Book, book, book_of, buffer_by, under}
 use Rattle.law.specs.Run.{Line, made, Stepped, Runs, Right, turned, ends, Told, Written, LawfulRun, RunsLawful}
 use Rattle.law.proofs.Good.{Good, At, book_is, picture_is, sound_of}
 use Rattle.law.proofs.Founds.{safe}

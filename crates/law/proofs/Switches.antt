@@ -1,11 +1,11 @@
 -- `switch` and `keep` keep what holds between calls.
-use Rattle.std.proofs.Common.{◌≡◌, ℕ, zero, suc, ◌+◌, ◌-◌, ◌*◌, ◌/◌, ◌%◌, ◌^◌, ◌<◌, ◌≤◌, Bool, true, false, cond, eqb, ◌⊎◌, List, length, Some, None, Ok, Err, Option, Result, sym, refl, ap, ◌∙◌, subst, inl, inr, ⊎_elim, arith}
+use Rattle.std.proofs.Common.{◌≡◌, ℕ, zero, suc, ◌+◌, ◌^◌, ◌<◌, ◌≤◌, false, cond, eqb, List, length, Some, None, Ok, Err, Option, Result, sym, refl, ap, ◌∙◌, subst, inl, inr, ⊎_elim, arith}
 use Rattle.std.proofs.lemmas.Bool.Decides.{nat_tests}
 use Rattle.faults.specs.declared.fault.Fault.{Fault}
 use Rattle.faults.specs.declared.fault.Check.TheVariants.{Stage as StageCheck}
 use Rattle.faults.specs.Faults.{bare, then}
 use Rattle.octets.specs.Rows.{byte, Holds}
-use Rattle.octets.specs.Sectors.{sector, patched, In, Lists}
+use Rattle.octets.specs.Sectors.{patched, Lists}
 use Rattle.octets.proofs.Patches.{length_patched}
 use Rattle.raster.specs.Picture.{Picture, Sound as SoundPicture}
 use Rattle.raster.specs.Turns.{composed}
@@ -23,14 +23,14 @@ use Rattle.drafts.specs.declared.state.Stage.{Stage}
 use Rattle.drafts.specs.declared.state.Stage.TheVariants.{Begun, Carried, Rested, Switched}
 use Rattle.drafts.specs.declared.call.Call.TheVariants.{Switch, Keep}
 use Rattle.drafts.specs.declared.call.Reply.TheVariants.{Done}
-use Rattle.drafts.specs.Steps.{Held, held, Answer, Write, write, answer_of, held_of, bytes_of, ok_of, size_of, block_of, staged}
+use Rattle.drafts.specs.Steps.{Held, held, Write, write, answer_of, held_of, bytes_of, ok_of, size_of, block_of}
 use Rattle.law.specs.Slate.{Slate, listed, picture_by, turn_by, is_page, keeping}
-use Rattle.law.specs.Book.{Book, book}
+use Rattle.law.specs.Book.{book}
 use Rattle.law.proofs.Firm.{Firm, Gains, in_lays, firm_as, firm_after, firm_settled}
-use Rattle.law.proofs.Pages.{Matters, only_page, shown_of_lem, other_page}
+use Rattle.law.proofs.Pages.{only_page, shown_of_lem, other_page}
 use Rattle.law.proofs.Headers.{picture_past}
 use Rattle.law.proofs.Blocks.{Fits, seen_outline, length_block_of, draft_opens}
-use Rattle.law.proofs.Good.{Ledger, Paged, Homed, Drafted, Lone, Rests, Moved, Out, Showing, Good, At, sound_is}
+use Rattle.law.proofs.Good.{Ledger, Paged, Drafted, Rests, Moved, Out, Showing, Good, At, sound_is}
 use Rattle.law.proofs.Founds.{dr, length_header, header_held, header_past, firm_first}
 use Rattle.law.proofs.Outcomes.{Moves, Outcome, nothing_gained, refused}
 use Rattle.law.proofs.Opens.{drafted_staged, closed_never}

@@ -1,5 +1,5 @@
 -- The slate, which tells in plain terms what a holder shows. It is made with the holder and fed its calls. Assumes nothing.
-use Rattle.std.specs.Prelude.{ℕ, Bool, true, false, cond, List, Some, None, Ok, Err, Option, Result, ◌==◌}
+use Rattle.std.specs.Prelude.{ℕ, Bool, false, cond, List, Some, None, Ok, Err, Option, Result, ◌==◌}
 use Rattle.faults.specs.declared.fault.Fault.{Fault}
 use Rattle.raster.specs.Picture.{Picture, empty}
 use Rattle.raster.specs.Turns.{composed}

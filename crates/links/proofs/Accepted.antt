@@ -1,14 +1,14 @@
 -- What holds of the directories of an accepted file.
-use Rattle.std.proofs.Common.{◌≡◌, ℕ, zero, suc, ◌+◌, ◌*◌, ◌<◌, ◌≤◌, min, true, false, ◌||◌, leb, List, [], ◌∷◌, length, get_or, take, Ok, Err, sym, refl, ap, ◌∙◌, subst, arith}
+use Rattle.std.proofs.Common.{◌≡◌, ℕ, zero, suc, ◌<◌, ◌≤◌, true, false, leb, List, [], ◌∷◌, length, get_or, take, Ok, Err, sym, ap, ◌∙◌, subst, arith}
 use Rattle.std.proofs.lemmas.List.{get_or-take}
 use Rattle.std.proofs.lemmas.Bool.{le-leb, lt-leb}
 use Rattle.octets.specs.declared.endian.Endian.{Endian}
-use Rattle.octets.specs.Numbers.{short, long}
+use Rattle.octets.specs.Numbers.{long}
 use Rattle.faults.specs.declared.fault.Check.TheVariants.{Page}
 use Rattle.faults.specs.Faults.{bare}
 use Rattle.links.specs.declared.directories.Directories.{Directories}
 use Rattle.links.specs.Links.{magic, listed, places_of, placed, walked}
-use Rattle.links.specs.Chain.{Stands, link_of, link_to, WellLinked}
+use Rattle.links.specs.Chain.{Stands, link_of, link_to}
 use Rattle.links.proofs.Found.{walked_linked, linked_found}
 use Rattle.links.proofs.Listing.{count_listed}
 

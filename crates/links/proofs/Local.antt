@@ -1,5 +1,5 @@
 -- The directories of a file depend on its header and on their counts and links alone.
-use Rattle.std.proofs.Common.{◌≡◌, ℕ, zero, suc, ◌+◌, ◌*◌, ◌<◌, ◌≤◌, min, List, length, get_or, take, Ok, sym, refl, ap, ◌∙◌, subst, zero-add, arith}
+use Rattle.std.proofs.Common.{◌≡◌, ℕ, zero, suc, ◌+◌, ◌*◌, ◌<◌, ◌≤◌, min, List, length, get_or, take, Ok, sym, ap, ◌∙◌, subst, zero-add, arith}
 use Rattle.std.proofs.lemmas.List.{ext_get_or, get_or-take, length-take}
 use Rattle.octets.specs.declared.endian.Endian.{Endian}
 use Rattle.octets.specs.Numbers.{short, long}
@@ -8,7 +8,7 @@ use Rattle.reads.specs.Agree.{Agree}
 use Rattle.reads.proofs.Agreeing.{short_agrees, long_agrees, agree_in}
 use Rattle.links.specs.declared.directories.Directories.{Directories}
 use Rattle.links.specs.Links.{entries_end, places_of}
-use Rattle.links.specs.Chain.{Stands, link_of, link_to, WellLinked, SameChain, ChainLocal}
+use Rattle.links.specs.Chain.{Stands, link_of, link_to, WellLinked, ChainLocal}
 use Rattle.links.proofs.Found.{walked_linked, linked_found}
 
 same_head : (bs cs : List ℕ) → length bs ≡ length cs → Agree bs cs 0 8 → take 4 bs ≡ take 4 cs

@@ -1,5 +1,5 @@
 -- The header of a file and the walk along the links from directory to directory. Assumes nothing.
-use Rattle.std.specs.Prelude.{ℕ, zero, suc, ◌+◌, ◌-◌, ◌*◌, ◌%◌, Bool, true, false, cond, ◌&&◌, ◌||◌, List, [], ◌∷◌, ◌++◌, length, take, replicate, Ok, Err, Result, ◌==◌, nat_le, nat_lt, slice_index}
+use Rattle.std.specs.Prelude.{ℕ, zero, suc, ◌+◌, ◌-◌, ◌*◌, ◌%◌, Bool, false, cond, ◌&&◌, ◌||◌, List, [], ◌∷◌, ◌++◌, length, take, replicate, Ok, Err, Result, ◌==◌, nat_le, nat_lt, slice_index}
 use Rattle.std.specs.Str.{bytes_eq}
 use Rattle.octets.specs.declared.endian.Endian.{Endian}
 use Rattle.octets.specs.declared.endian.Endian.TheVariants.{Little, Big}

@@ -1,5 +1,5 @@
 -- What a window answers and leaves, from what was written.
-use Rattle.std.proofs.Common.{◌≡◌, ℕ, ◌+◌, ◌*◌, ◌<◌, ◌≤◌, Bool, true, false, cond, ◌&&◌, leb, List, [], ◌∷◌, ◌++◌, length, drop, Ok, Err, Result, sym, refl, ap, ◌∙◌, subst, ap₂, zero-add, arith}
+use Rattle.std.proofs.Common.{◌≡◌, ℕ, ◌+◌, ◌*◌, ◌<◌, true, ◌&&◌, leb, List, ◌++◌, length, drop, Ok, Err, sym, ap, ◌∙◌, ap₂, zero-add, arith}
 use Rattle.std.proofs.lemmas.Bool.{cond-true, cond-false, le-leb, lt-leb, and_from, and_right}
 use Rattle.raster.specs.Picture.{Picture}
 use Rattle.raster.specs.Views.{rectangle, fits}
@@ -12,7 +12,7 @@ use Rattle.raster.specs.declared.grid.Area.{Area}
 use Rattle.faults.specs.declared.fault.Check.TheVariants.{Small}
 use Rattle.faults.specs.Faults.{bare}
 use Rattle.octets.proofs.Puts.{put_then, put_as}
-use Rattle.pnm.proofs.Heads.{length_printed, length_body}
+use Rattle.pnm.proofs.Heads.{length_printed}
 
 pub window_length : (p : Picture) (a : Area) (k : Kind) (n r : ℕ) → k ≡ p.kind →
     n ≡ length (head a.width a.height k) → r ≡ stride k a.width → n + r * a.height ≡ length (window_bytes p a)

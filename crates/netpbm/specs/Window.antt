@@ -1,5 +1,5 @@
 -- What `window` answers, and what it leaves in its buffer. Assumes nothing.
-use Rattle.std.specs.Prelude.{ℕ, Bool, true, false, cond, ◌&&◌, List, ◌++◌, length, drop, Ok, Err, Result, nat_le}
+use Rattle.std.specs.Prelude.{ℕ, cond, ◌&&◌, List, ◌++◌, length, drop, Ok, Err, Result, nat_le}
 use Rattle.faults.specs.declared.fault.Fault.{Fault}
 use Rattle.faults.specs.declared.fault.Check.TheVariants.{Outside, Small}
 use Rattle.faults.specs.Faults.{bare}

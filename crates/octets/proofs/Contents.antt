@@ -1,5 +1,5 @@
 -- Laws of lists of contents. Assumes nothing.
-use Rattle.std.proofs.Common.{◌≡◌, ℕ, ◌⊎◌, List, [], ◌∷◌, ◌++◌, map, sym, refl, ap, ◌∙◌, subst, inl, inr, ⊎_elim}
+use Rattle.std.proofs.Common.{◌≡◌, ℕ, List, [], ◌∷◌, map, sym, refl, ap, subst, inl, inr}
 use Rattle.octets.specs.Sectors.{In}
 
 pub in_map : (f : List ℕ → List ℕ) (c : List ℕ) (ds : List (List ℕ)) → In c ds → In (f c) (map f ds)

@@ -1,6 +1,6 @@
 -- Digits put together and taken apart.
-use Rattle.std.proofs.Common.{◌≡◌, ℕ, zero, suc, ◌+◌, ◌-◌, ◌*◌, ◌/◌, ◌%◌, ◌^◌, ◌<◌, ◌≤◌, sym, refl, ap, ◌∙◌, inl, inr, ⊎_elim, mul-le-mul_right, mod-lt, mod-eq_of_lt, div-lt_iff_lt-mul, pow-suc, mul-zero, div-add-mod', mul-suc, div-one, arith}
-use native.Mathlib.Nat.{pow-zero, pow-succ', div-div-eq-div-mul, add-mul-div_right, mul-add-mod_self_right, one-le-pow}
+use Rattle.std.proofs.Common.{◌≡◌, ℕ, zero, suc, ◌+◌, ◌-◌, ◌*◌, ◌/◌, ◌%◌, ◌^◌, ◌<◌, refl, ap, ◌∙◌, ⊎_elim, div-lt_iff_lt-mul, pow-suc, mul-zero, div-add-mod', mul-suc, div-one, arith}
+use native.Mathlib.Nat.{pow-zero, pow-succ', div-div-eq-div-mul}
 use lib.Arith.{digits_lt, digits_div, digits_mod}
 use Rattle.std.proofs.lemmas.Bool.{cases_eq}
 use Rattle.std.proofs.lemmas.Nat.{pow-add}

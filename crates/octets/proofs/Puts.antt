@@ -1,7 +1,7 @@
 -- Writes one after the other are one write.
 -- Assumes nothing.
-use Rattle.std.proofs.Common.{◌≡◌, ℕ, suc, ◌+◌, ◌-◌, ◌<◌, ◌≤◌, List, [], ◌∷◌, ◌++◌, length, take, drop, set, sym, refl, ap, ◌∙◌, subst, add-zero, add-one, arith, length-append}
-use Rattle.std.proofs.lemmas.List.{append_assoc, append-nil, take-append-drop, set_split, take_at, drop_at, take-append-le, drop-append-le, drop-drop, length-take-le, length-drop, length-set}
+use Rattle.std.proofs.Common.{◌≡◌, ℕ, ◌+◌, ◌<◌, ◌≤◌, List, [], ◌∷◌, ◌++◌, length, take, drop, set, sym, refl, ap, ◌∙◌, subst, add-zero, add-one, arith, length-append}
+use Rattle.std.proofs.lemmas.List.{append_assoc, take-append-drop, set_split, take_at, drop_at, drop-drop, length-take-le, length-drop}
 use Rattle.octets.specs.Writes.{Put}
 use Rattle.octets.specs.Sectors.{patched}
 

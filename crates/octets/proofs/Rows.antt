@@ -1,12 +1,12 @@
 -- Lists that stand in others, and rows read back.
-use Rattle.std.proofs.Common.{◌≡◌, ℕ, zero, suc, ◌+◌, ◌-◌, ◌*◌, ◌/◌, ◌%◌, ◌^◌, ◌<◌, ◌≤◌, Bool, true, false, cond, ltb, ◌⊎◌, List, [], ◌∷◌, ◌++◌, map, length, get_or, sym, refl, ap, ◌∙◌, subst, inl, inr, ⊎_elim, mod-lt, suc-mul, div-add-mod', zero-mul, arith}
+use Rattle.std.proofs.Common.{◌≡◌, ℕ, zero, suc, ◌+◌, ◌*◌, ◌/◌, ◌%◌, ◌^◌, ◌<◌, ltb, List, ◌++◌, length, sym, refl, ap, ◌∙◌, subst, inl, inr, mod-lt, suc-mul, div-add-mod', arith}
 use Rattle.std.specs.List.{range_with_len, flat_map}
 use Rattle.std.proofs.lemmas.List.{length-append, get_or_append_left, get_or-append-add}
 use Rattle.std.proofs.lemmas.List.FromFn.{length-map-range_with_len, get_or-map-range_with_len}
 use Rattle.std.proofs.lemmas.Bool.{lt-ltb, cond-true, cond_both, ltb-true}
 use Rattle.std.proofs.lemmas.Nat.{pow_pos}
 use Rattle.octets.specs.Digits.{packed, digit}
-use Rattle.octets.specs.Rows.{byte, Holds, tabulate, chain, ceil, Bits, per_byte, packed_size, padded, packed_row, sample_in}
+use Rattle.octets.specs.Rows.{byte, Holds, chain, Bits, per_byte, packed_size, padded, packed_row, sample_in}
 use Rattle.octets.proofs.Digits.{digit_packed}
 
 pub holds_at : (bs : List ℕ) (p q : ℕ) (xs : List ℕ) → p ≡ q → Holds bs p xs → Holds bs q xs

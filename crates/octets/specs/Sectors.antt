@@ -1,5 +1,5 @@
 -- Bytes by sectors of 512, and lists of the contents of a sector.
-use Rattle.std.specs.Prelude.{◌≡◌, ℕ, ◌+◌, ◌-◌, ◌*◌, ◌<◌, ◌≤◌, ◌⊎◌, List, [], ◌∷◌, ◌++◌, length, take, drop}
+use Rattle.std.specs.Prelude.{◌≡◌, ℕ, ◌+◌, ◌-◌, ◌*◌, ◌<◌, ◌⊎◌, List, [], ◌∷◌, ◌++◌, length, take, drop}
 
 -- sector s of the bytes: 512 of them from 512 × s on, or as many as there are
 unfoldable pub sector : List ℕ → ℕ → List ℕ

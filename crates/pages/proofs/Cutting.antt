@@ -1,5 +1,5 @@
 -- Parts that cover a length.
-use Rattle.std.proofs.Common.{◌≡◌, ℕ, zero, suc, ◌+◌, ◌-◌, ◌*◌, ◌/◌, ◌^◌, ◌<◌, ◌≤◌, div-lt_iff_lt-mul, arith}
+use Rattle.std.proofs.Common.{ℕ, zero, suc, ◌+◌, ◌-◌, ◌*◌, ◌^◌, ◌<◌, div-lt_iff_lt-mul, arith}
 use native.Mathlib.Nat.{div-zero}
 use Rattle.octets.specs.Rows.{ceil}
 

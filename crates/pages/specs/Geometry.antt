@@ -1,5 +1,5 @@
 -- How a page is cut into strips or tiles. Assumes nothing.
-use Rattle.std.specs.Prelude.{ℕ, ◌+◌, ◌-◌, ◌*◌, ◌/◌, ◌%◌, min, cond, ◌==◌}
+use Rattle.std.specs.Prelude.{ℕ, ◌-◌, ◌*◌, ◌/◌, ◌%◌, min, cond, ◌==◌}
 use Rattle.octets.specs.Rows.{ceil, packed_size}
 use Rattle.raster.specs.declared.grid.Kind.{Kind}
 use Rattle.raster.specs.Picture.{number_of}

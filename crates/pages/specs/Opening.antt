@@ -3,7 +3,6 @@ use Rattle.std.specs.Prelude.{◌≡◌, ℕ, List, Ok, Result}
 use Rattle.faults.specs.declared.fault.Fault.{Fault}
 use Rattle.faults.specs.Faults.{then}
 use Rattle.octets.specs.declared.endian.Endian.{Endian}
-use Rattle.links.specs.declared.directories.Directories.{Directories}
 use Rattle.links.specs.Links.{walked, placed}
 use Rattle.entries.specs.declared.entry.Directory.{Directory}
 use Rattle.entries.specs.Entries.{directory_at}

@@ -1,5 +1,5 @@
 -- The checks of a whole page. Assumes nothing.
-use Rattle.std.specs.Prelude.{ℕ, ◌+◌, ◌*◌, ◌%◌, min, Bool, true, false, cond, not, ◌&&◌, ◌||◌, List, is_some, Some, None, Ok, Err, Option, Result, ◌==◌, nat_le, nat_lt}
+use Rattle.std.specs.Prelude.{ℕ, ◌%◌, min, Bool, true, false, cond, not, ◌&&◌, ◌||◌, List, is_some, Some, None, Ok, Err, Option, Result, ◌==◌, nat_le, nat_lt}
 use Rattle.faults.specs.declared.fault.Check.{Check}
 use Rattle.faults.specs.declared.fault.Check.TheVariants.{Missing, Kind as KindCheck, Size, Tally}
 use Rattle.faults.specs.declared.fault.Fault.{Fault}

@@ -1,5 +1,5 @@
 -- The segments of a page, and the check of each. Assumes nothing.
-use Rattle.std.specs.Prelude.{ℕ, zero, suc, ◌+◌, Bool, ◌||◌, List, length, Ok, Err, Result, nat_lt}
+use Rattle.std.specs.Prelude.{ℕ, zero, suc, ◌+◌, Bool, ◌||◌, List, length, Ok, Result, nat_lt}
 use Rattle.faults.specs.declared.fault.Check.TheVariants.{Segment}
 use Rattle.faults.specs.declared.fault.Fault.{Fault}
 use Rattle.faults.specs.Faults.{fault, refused, then}

@@ -7,7 +7,7 @@ use Rattle.octets.proofs.Patches.{get_or_patched_below, get_or_patched_above}
 use Rattle.pages.specs.declared.layout.Layout.{Layout}
 use Rattle.pages.specs.Extents.{Covered, AgreeOn, extents}
 use Rattle.places.specs.Places.{place_of}
-use Rattle.places.specs.Lowest.{Suits, LowestPlace}
+use Rattle.places.specs.Lowest.{Suits}
 use Rattle.places.proofs.Finding.{place_placed}
 
 -- the place that is answered suits the block

@@ -1,12 +1,12 @@
 -- What the search answers where it ends.
-use Rattle.std.proofs.Common.{◌≡◌, ℕ, ◌+◌, ◌*◌, ◌/◌, ◌<◌, ◌≤◌, true, ◌⊎◌, List, length, Some, None, sym, refl, ap, ◌∙◌, subst, inl, inr, ⊎_elim, arith}
+use Rattle.std.proofs.Common.{◌≡◌, ℕ, ◌+◌, ◌*◌, ◌/◌, ◌<◌, ◌≤◌, true, List, length, Some, None, sym, refl, ap, ◌∙◌, subst, ⊎_elim, arith}
 use Rattle.std.proofs.lemmas.Bool.{cases_lt}
 use Rattle.pages.specs.declared.layout.Layout.{Layout}
 use Rattle.pages.specs.Extents.{Span, extents}
-use Rattle.places.specs.Places.{free, clears, place_of}
+use Rattle.places.specs.Places.{free, place_of}
 use Rattle.places.specs.Search.{passed_all}
 use Rattle.places.proofs.Finding.{free_from, free_past, free_unclear, place_found, place_none}
-use Rattle.places.proofs.Passing.{Tried, all_same, all_tried, all_grows}
+use Rattle.places.proofs.Passing.{Tried, all_same, all_tried}
 
 -- no sector from 1 on begins below 512
 pub tried_none : (all : List Span) (len : ℕ) → Tried all len 512

@@ -1,7 +1,7 @@
 -- The values of an entry, by the twelve bytes of the entry.
 use Rattle.std.proofs.Common.{◌≡◌, ℕ, zero, suc, ◌+◌, ◌-◌, ◌*◌, ◌/◌, ◌<◌, ◌≤◌, min, Bool, true, false, cond, ◌&&◌, ltb, leb, ◌⊎◌, List, [], ◌∷◌, ◌++◌, length, get_or, take, drop, sym, refl, ap, ◌∙◌, inl, inr, ⊎_elim, add_assoc, arith}
 use Rattle.std.proofs.lemmas.List.{get_or-take, get_or-drop, get_or_past, get_or-replicate, get_or_append_left, get_or-append_right, length-take-le, length-drop, length-replicate}
-use Rattle.std.proofs.lemmas.Bool.{cond-true, cond-false, and_left, and_right, le-ltb, lt-leb, cases_lt}
+use Rattle.std.proofs.lemmas.Bool.{cond-false, and_left, and_right, le-ltb, lt-leb, cases_lt}
 use Rattle.octets.specs.Digits.{number}
 use Rattle.octets.specs.Numbers.{short, long}
 use Rattle.octets.specs.Rows.{byte}
@@ -10,8 +10,8 @@ use Rattle.octets.proofs.Digits.{number_same}
 use Rattle.reads.specs.Reads.{part_or, zeros}
 use Rattle.reads.proofs.Parts.{part_or_inside}
 use Rattle.entries.specs.declared.entry.Entry.{Entry}
-use Rattle.entries.specs.Entries.{entry_at, size, size_of, home_of}
-use Rattle.pages.specs.Extents.{Span, span, outer}
+use Rattle.entries.specs.Entries.{entry_at, size, home_of}
+use Rattle.pages.specs.Extents.{span, outer}
 use Rattle.places.specs.Places.{behind, shares}
 use Rattle.places.specs.Search.{passed, passed_value, outer_span}
 

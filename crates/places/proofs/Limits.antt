@@ -1,10 +1,10 @@
 -- A sane layout has few segments, and each needs few bytes.
-use Rattle.std.proofs.Common.{◌≡◌, ℕ, ◌+◌, ◌-◌, ◌*◌, ◌/◌, ◌^◌, ◌<◌, ◌≤◌, min, cond, eqb, mul-le-mul, div-le_self, arith}
+use Rattle.std.proofs.Common.{◌≡◌, ℕ, ◌+◌, ◌-◌, ◌*◌, ◌^◌, ◌<◌, ◌≤◌, min, eqb, mul-le-mul, div-le_self, arith}
 use Rattle.std.proofs.lemmas.Bool.{cond_both}
 use Rattle.octets.specs.Rows.{ceil}
 use Rattle.raster.specs.Picture.{number_of}
 use Rattle.pages.specs.declared.layout.Layout.{Layout}
-use Rattle.pages.specs.Geometry.{samples_of, across, segments, segments_of, first_row, rows_of, row_bytes, needed}
+use Rattle.pages.specs.Geometry.{samples_of, across, segments, segments_of, first_row, rows_of, needed}
 use Rattle.stored.specs.Sane.{Sane}
 
 ceil_few : (a b : ℕ) → a ≤ 16384 → b ≤ 16384 → ceil a b ≤ 32767

@@ -1,10 +1,10 @@
 -- What a look at each extent in turn does to the place of a block.
-use Rattle.std.proofs.Common.{◌≡◌, ℕ, ◌+◌, ◌*◌, ◌/◌, ◌%◌, ◌<◌, ◌≤◌, Bool, true, false, cond, ◌⊎◌, List, [], ◌∷◌, ◌++◌, sym, refl, ap, ◌∙◌, subst, inl, inr, ⊎_elim, arith}
+use Rattle.std.proofs.Common.{◌≡◌, ℕ, ◌*◌, ◌%◌, ◌<◌, ◌≤◌, true, false, ◌⊎◌, List, [], ◌∷◌, ◌++◌, sym, refl, ap, ◌∙◌, inl, inr, ⊎_elim, arith}
 use Rattle.std.proofs.lemmas.Bool.{cond-true, cond-false, cond_both, cases_lt, cases_Bool}
 use Rattle.pages.specs.Extents.{Span}
 use Rattle.places.specs.Places.{behind, shares, clears}
 use Rattle.places.specs.Search.{passed, passed_all}
-use Rattle.places.proofs.Sharing.{Shared, shares_true, shares_from, shared_up, unclear_first, unclear_rest, clear_both}
+use Rattle.places.proofs.Sharing.{shares_true, shares_from, shared_up, unclear_first, unclear_rest, clear_both}
 
 -- the sectors from 1 on that begin below a place are none at which a block is clear of some spans
 pub record Tried (all : List Span) (len place : ℕ) : Type 0 where

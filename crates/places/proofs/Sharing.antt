@@ -1,7 +1,7 @@
 -- Laws of blocks and spans that share a sector, and of those that share none.
-use Rattle.std.proofs.Common.{◌≡◌, ℕ, ◌+◌, ◌*◌, ◌/◌, ◌<◌, ◌≤◌, Bool, true, false, not, ◌&&◌, ltb, leb, ◌⊎◌, List, [], ◌∷◌, sym, refl, ◌∙◌, inl, inr, ⊎_elim, arith}
+use Rattle.std.proofs.Common.{◌≡◌, ℕ, ◌+◌, ◌*◌, ◌/◌, ◌<◌, ◌≤◌, Bool, true, false, not, ◌&&◌, ltb, List, [], ◌∷◌, refl, inl, inr, ⊎_elim, arith}
 use Rattle.std.proofs.lemmas.Bool.{both_ways, ltb-true, lt-ltb, and_parts, and_from, and_left, and_right, not-true, not_from_true, not_from_false, cases_lt, cases_Bool}
-use Rattle.pages.specs.Extents.{Span, Covered}
+use Rattle.pages.specs.Extents.{Span}
 use Rattle.places.specs.Places.{behind, shares, clears}
 use Rattle.places.specs.Lowest.{Clear}
 

@@ -1,5 +1,5 @@
 -- How the search goes: the place moves behind each extent with which the block would share a sector. Assumes nothing.
-use Rattle.std.specs.Prelude.{ℕ, ◌+◌, ◌*◌, Bool, cond, ◌&&◌, List, [], ◌∷◌, map, nat_le, nat_lt}
+use Rattle.std.specs.Prelude.{ℕ, ◌+◌, ◌*◌, cond, ◌&&◌, List, [], ◌∷◌, map, nat_le, nat_lt}
 use Rattle.std.specs.List.{range_with_len}
 use Rattle.entries.specs.declared.entry.Entry.{Entry}
 use Rattle.entries.specs.Entries.{size, size_of}

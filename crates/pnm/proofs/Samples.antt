@@ -1,8 +1,8 @@
 -- What an allowed kind says of pixel numbers.
-use Rattle.std.proofs.Common.{◌≡◌, ℕ, ◌+◌, ◌-◌, ◌^◌, ◌<◌, ◌≤◌, Bool, true, false, cond, eqb, ltb, sym, refl, ap, ◌∙◌, subst, ap₂, arith}
+use Rattle.std.proofs.Common.{◌≡◌, ℕ, ◌+◌, ◌-◌, ◌^◌, ◌<◌, ◌≤◌, true, eqb, ltb, sym, ap, ◌∙◌, subst, ap₂, arith}
 use Rattle.std.proofs.lemmas.Bool.{cond-false, cond_both, eqb-true, ne_eqb}
 use Rattle.std.proofs.lemmas.Bool.Decides.{nat_tests}
-use Rattle.raster.specs.Picture.{Picture, Sound, allowed, levels, framed, number_of}
+use Rattle.raster.specs.Picture.{Picture, Sound, allowed, levels, number_of}
 use Rattle.raster.specs.Views.{rectangle}
 use Rattle.pnm.specs.Netpbm.{bilevel, colour, grey, largest, black, pixel_bytes}
 use Rattle.raster.specs.declared.grid.Kind.{Kind}

@@ -1,5 +1,5 @@
 -- A picture as a Netpbm file: P4 for bilevel, P5 for grey, P6 for RGB. Assumes nothing.
-use Rattle.std.specs.Prelude.{ℕ, ◌+◌, ◌-◌, ◌*◌, ◌/◌, ◌%◌, ◌^◌, Bool, true, false, cond, List, [], ◌∷◌, ◌++◌, decimal, ◌==◌, nat_lt}
+use Rattle.std.specs.Prelude.{ℕ, ◌+◌, ◌-◌, ◌*◌, ◌/◌, ◌%◌, ◌^◌, Bool, cond, List, [], ◌∷◌, ◌++◌, decimal, ◌==◌, nat_lt}
 use Rattle.octets.specs.Digits.{packed}
 use Rattle.octets.specs.Rows.{tabulate, chain}
 use Rattle.raster.specs.Picture.{Picture, number_of}

@@ -1,14 +1,11 @@
 -- One turn after another is one turn: by the law on swaps and reversals, and one test over the whole table.
-use Rattle.std.proofs.Common.{◌≡◌, ℕ, ◌+◌, ◌-◌, ◌*◌, ◌/◌, ◌%◌, ◌<◌, ◌≤◌, Bool, true, false, cond, not, ◌&&◌, ◌||◌, T, eqb, ltb, leb, ◌⊎◌, List, [], ◌∷◌, length, get_or, sym, refl, ap, ◌∙◌, ap₂, subst₂, inl, inr, ⊎_elim, arith, ltb→lt}
-use mathlib.Core.Path.{fun_ext}
-use Rattle.std.proofs.lemmas.Bool.{cond-true, cond-false, cases_Bool, cases_lt, and_parts, and_from, ltb-true, lt-ltb, leb-true, lt-leb}
+use Rattle.std.proofs.Common.{◌≡◌, ℕ, ◌+◌, ◌-◌, ◌*◌, ◌/◌, ◌%◌, ◌<◌, ◌≤◌, Bool, true, false, cond, not, T, ltb, get_or, sym, refl, ◌∙◌, ap₂, subst₂, arith, ltb→lt}
 use Rattle.std.proofs.lemmas.Bool.Decides.{nat_tests}
-use Rattle.std.proofs.lemmas.Nat.{div-mul-add, mod-mul-add}
-use Rattle.raster.specs.Picture.{Picture, within, framed, reshaped}
+use Rattle.raster.specs.Picture.{Picture, framed, reshaped}
 use Rattle.raster.specs.Views.{turn_by, swaps, mirrors, flips, reversed, counted}
 use Rattle.raster.specs.Turns.{table, composed, Composes, Rule}
 use Rattle.raster.proofs.Frames.{framed_inside, reshaped_same}
-use Rattle.raster.proofs.Table.{at, both, both_left, both_right, every}
+use Rattle.raster.proofs.Table.{at, both, both_left, both_right}
 
 abbrev unlike : Bool → Bool → Bool
 unlike true b = not b

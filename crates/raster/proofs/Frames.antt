@@ -1,11 +1,10 @@
 -- Pixels inside and outside the sides, and when two pictures are equal.
-use Rattle.std.proofs.Common.{◌≡◌, ℕ, ◌+◌, ◌<◌, ◌≤◌, Bool, true, false, cond, ◌&&◌, ltb, leb, sym, refl, ap, ◌∙◌, ⊎_elim, zero-add, arith}
+use Rattle.std.proofs.Common.{◌≡◌, ℕ, ◌+◌, ◌<◌, cond, ltb, sym, ap, ◌∙◌, ⊎_elim, zero-add, arith}
 use mathlib.Core.Path.{fun_ext}
 use Rattle.std.proofs.lemmas.Bool.{cond-true, cond-false, cases_Bool, and_parts, and_from, ltb-true, lt-ltb, le-leb}
 use Rattle.raster.specs.Picture.{Picture, Sound, within, framed, reshaped, empty}
-use Rattle.raster.specs.Views.{turn_by, crop_of, rectangle, fits}
+use Rattle.raster.specs.Views.{turn_by, crop_of, fits}
 use Rattle.raster.specs.Turns.{whole, Unchanged}
-use Rattle.raster.specs.declared.grid.Kind.{Kind}
 
 pub framed_inside : (w h : ℕ) (f : ℕ → ℕ → ℕ) (x y : ℕ) → x < w → y < h → framed w h f x y ≡ f x y
 framed_inside w h f x y hx hy =

@@ -1,10 +1,9 @@
 -- Rectangles and turns of sound pictures are sound. Assumes nothing.
-use Rattle.std.specs.Prelude.{◌≡◌, ℕ, ◌+◌, ◌-◌, ◌^◌, ◌<◌, ◌≤◌, Bool, true, false, cond, ◌&&◌, ◌||◌, ◌⊎◌, ◌==◌, nat_le, nat_lt, refl}
-use Rattle.std.proofs.Common.{sym, ap, subst, ◌∙◌, inl, inr, ⊎_elim, arith, pow_pos}
-use Rattle.std.proofs.Math.Path.{fun_ext}
-use Rattle.std.proofs.lemmas.Bool.{cond-true, cond-false, cond_both, cases_Bool, and_parts, ltb-true, leb-true, lt-ltb, and_from}
-use Rattle.raster.specs.Picture.{Picture, Sound, within, framed, empty, allowed, levels, kind_of, number_of}
-use Rattle.raster.specs.Views.{crop_of, rectangle, fits, turn_by, swaps, mirrors, flips, column_below, row_below}
+use Rattle.std.specs.Prelude.{◌≡◌, ℕ, ◌+◌, ◌^◌, ◌<◌, ◌≤◌, Bool, true, false, cond, ◌&&◌, ◌==◌, nat_le, nat_lt, refl}
+use Rattle.std.proofs.Common.{ap, ◌∙◌, inl, inr, ⊎_elim, arith, pow_pos}
+use Rattle.std.proofs.lemmas.Bool.{cond-false, cond_both, and_parts, ltb-true, leb-true}
+use Rattle.raster.specs.Picture.{Picture, Sound, within, framed, empty, levels, kind_of, number_of}
+use Rattle.raster.specs.Views.{crop_of, rectangle, fits, turn_by, swaps, column_below, row_below}
 use Rattle.raster.specs.declared.grid.Kind.{Kind}
 use Rattle.raster.specs.declared.grid.Photometric.TheVariants.{BlackIsZero}
 use Rattle.raster.specs.declared.grid.Area.{Area}

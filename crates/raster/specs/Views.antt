@@ -1,5 +1,5 @@
 -- Pictures made of others: a rectangle of one, and the eight turns. Assumes nothing.
-use Rattle.std.specs.Prelude.{ℕ, ◌+◌, ◌-◌, ◌<◌, Bool, true, false, cond, ◌&&◌, ◌||◌, ◌==◌, nat_le, nat_lt}
+use Rattle.std.specs.Prelude.{ℕ, ◌+◌, ◌-◌, Bool, cond, ◌&&◌, ◌||◌, ◌==◌, nat_le, nat_lt}
 use Rattle.raster.specs.Picture.{Picture, reshaped, empty}
 use Rattle.raster.specs.declared.grid.Area.{Area}
 

@@ -1,11 +1,10 @@
 -- The checks of format, kind, sides, tally and segments accept just what the rules allow.
-use Rattle.std.proofs.Common.{◌≡◌, ℕ, zero, suc, ◌+◌, ◌-◌, ◌%◌, ◌<◌, ◌≤◌, min, Bool, true, false, cond, not, ◌&&◌, ◌||◌, eqb, ltb, leb, ◌⊎◌, List, length, Ok, Err, Decides, Result, sym, refl, ap, ◌∙◌, subst, inl, inr, ⊎_elim, arith}
-use Rattle.std.proofs.lemmas.Bool.{true≢false, not-false, not_from_true, eqb-true, eqb-false, eq-eqb, ne_eqb, le-ltb, ltb-false, or_parts, or_from, or_left, or_right}
+use Rattle.std.proofs.Common.{◌≡◌, ℕ, zero, suc, ◌+◌, ◌<◌, ◌≤◌, Bool, true, false, cond, not, ◌&&◌, ◌||◌, eqb, ltb, ◌⊎◌, List, length, Ok, Decides, Result, sym, refl, ap, ◌∙◌, subst, ⊎_elim, arith}
+use Rattle.std.proofs.lemmas.Bool.{true≢false, not-false, eqb-true, eqb-false, eq-eqb, ne_eqb, le-ltb, ltb-false, or_parts, or_from, or_left, or_right}
 use Rattle.std.proofs.lemmas.Bool.Decides.{nat_tests, Decides-and, Decides-or, Decides-eqb, Decides-ltb, Decides-like}
-use Rattle.faults.specs.declared.fault.Check.TheVariants.{Kind as KindCheck, Size, Tally, Segment}
+use Rattle.faults.specs.declared.fault.Check.TheVariants.{Kind as KindCheck, Size, Segment}
 use Rattle.faults.specs.declared.fault.Fault.{Fault}
-use Rattle.faults.specs.Faults.{refused, fault, then}
-use Rattle.octets.specs.Rows.{Bits}
+use Rattle.faults.specs.Faults.{refused, fault}
 use Rattle.raster.specs.declared.grid.Kind.{Kind}
 use Rattle.raster.specs.Picture.{kind_of}
 use Rattle.links.proofs.Chaining.{then_was, then_ok, passed}
@@ -16,7 +15,7 @@ use Rattle.pages.specs.declared.layout.Layout.{Layout}
 use Rattle.pages.specs.declared.layout.Sampling.{Sampling}
 use Rattle.pages.specs.declared.layout.Sides.{Sides}
 use Rattle.pages.specs.Geometry.{segments_of, needed}
-use Rattle.pages.specs.Pages.{fault_in, formatted, grey, rgb, interpreted, sampled, page_side, tile_side, tile_cut, strip_cut, cut_of, tallied, offsets_tag, counts_tag}
+use Rattle.pages.specs.Pages.{fault_in, formatted, grey, rgb, interpreted, sampled, page_side, tile_side, tile_cut, strip_cut, cut_of, tallied, offsets_tag}
 use Rattle.pages.specs.Segments.{offset_of, byte_count_of, lacking, segment_at, segments_from, filled}
 use Rattle.pages.proofs.Stages.{tallied_was}
 use Rattle.rules.specs.Rules.{FormatRules, Grey, Rgb, KindRules, PageSide, TileSide, SideRules, cut_by, TallyRules, SegmentRules}

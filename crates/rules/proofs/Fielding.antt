@@ -1,11 +1,11 @@
 -- The checks of entries accept just what the rules allow.
-use Rattle.std.proofs.Common.{◌≡◌, ℕ, zero, suc, ◌+◌, ◌%◌, ◌<◌, ◌≤◌, Bool, true, false, not, ◌&&◌, ◌||◌, eqb, ltb, ◌⊎◌, List, [], ◌∷◌, length, Some, None, Ok, Err, Decides, Option, Result, sym, refl, ap, ◌∙◌, subst, inl, inr, arith}
+use Rattle.std.proofs.Common.{◌≡◌, ℕ, ◌+◌, ◌%◌, ◌<◌, ◌≤◌, false, not, ◌&&◌, ◌||◌, eqb, ltb, ◌⊎◌, List, [], ◌∷◌, length, Some, None, Ok, Decides, Option, Result, sym, refl, ap, ◌∙◌, subst, inl, inr, arith}
 use Rattle.std.specs.List.{AllByRecursion as All}
-use Rattle.std.proofs.lemmas.Bool.{and_parts, or_parts, and_left, lt-ltb, le-ltb, ltb-true, ltb-false, eqb-false, ne_eqb, or_from, not-false, cases_lt, true≢false}
-use Rattle.std.proofs.lemmas.Bool.Decides.{nat_tests, Decides-and, Decides-or, Decides-eqb, Decides-ltb}
+use Rattle.std.proofs.lemmas.Bool.{or_parts, and_left, lt-ltb, le-ltb, ltb-false, eqb-false, ne_eqb, or_from, not-false, cases_lt}
+use Rattle.std.proofs.lemmas.Bool.Decides.{Decides-and, Decides-or, Decides-eqb, Decides-ltb}
 use Rattle.faults.specs.declared.fault.Check.TheVariants.{Order, Field, Value}
 use Rattle.faults.specs.declared.fault.Fault.{Fault}
-use Rattle.faults.specs.Faults.{refused, fault, then}
+use Rattle.faults.specs.Faults.{refused, fault}
 use Rattle.links.proofs.Chaining.{then_was, then_ok, passed}
 use Rattle.entries.specs.declared.entry.Directory.{Directory}
 use Rattle.entries.specs.declared.entry.Entry.{Entry}

@@ -1,22 +1,19 @@
 -- Opening a page looks at the header and the extents alone.
-use Rattle.std.proofs.Common.{◌≡◌, ℕ, ◌+◌, ◌*◌, ◌<◌, ◌≤◌, List, length, get_or, Ok, sym, refl, ap, ◌∙◌, subst, arith}
+use Rattle.std.proofs.Common.{◌≡◌, ℕ, ◌+◌, ◌*◌, ◌<◌, List, get_or, Ok, sym, ap, ◌∙◌, subst, arith}
 use Rattle.octets.specs.Numbers.{short}
-use Rattle.octets.specs.declared.endian.Endian.{Endian}
 use Rattle.reads.specs.Agree.{Agree}
 use Rattle.reads.proofs.Agreeing.{short_agrees, agree_in}
-use Rattle.links.specs.declared.directories.Directories.{Directories}
-use Rattle.links.specs.Chain.{SameChain, link_of}
-use Rattle.links.specs.Links.{walked, placed}
+use Rattle.links.specs.Chain.{link_of}
+use Rattle.links.specs.Links.{walked}
 use Rattle.links.proofs.Accepted.{accepted_page}
 use Rattle.links.proofs.Local.{chain_local}
 use Rattle.entries.specs.declared.entry.Directory.{Directory}
 use Rattle.entries.specs.Entries.{directory_at}
 use Rattle.pages.specs.declared.layout.Layout.{Layout}
-use Rattle.pages.specs.Opening.{page_of, page_at, HasPage, opened}
-use Rattle.pages.specs.Extents.{extents, AgreeOn}
+use Rattle.pages.specs.Opening.{page_of, page_at, HasPage}
 use Rattle.pages.proofs.Stages.{open-3}
 use Rattle.rules.specs.Local.{PageLocal, PageStands, OpeningLocal}
-use Rattle.rules.proofs.Meeting.{Paged, page_was, Opened, opened_was}
+use Rattle.rules.proofs.Meeting.{Paged, page_was, opened_was}
 use Rattle.rules.proofs.Staying.{directory_same, same_page, same_extents}
 
 -- a page knows its directory and the number of directories

@@ -1,15 +1,13 @@
 -- A page is accepted exactly if it meets the rules.
-use Rattle.std.proofs.Common.{◌≡◌, ℕ, ◌<◌, ◌≤◌, Bool, ◌||◌, leb, List, length, get_or, Ok, Err, Result, sym, refl, ap, ◌∙◌, subst, arith}
+use Rattle.std.proofs.Common.{◌≡◌, ℕ, ◌<◌, ◌||◌, leb, List, length, get_or, Ok, Result, sym, ap, ◌∙◌, subst, arith}
 use Rattle.std.proofs.lemmas.List.{get_or-take}
 use Rattle.std.proofs.lemmas.Bool.{leb-false, or_parts}
-use Rattle.octets.specs.declared.endian.Endian.{Endian}
 use Rattle.faults.specs.declared.fault.Check.TheVariants.{Page}
 use Rattle.faults.specs.declared.fault.Fault.{Fault}
 use Rattle.faults.specs.Faults.{bare, then}
 use Rattle.raster.specs.declared.grid.Kind.{Kind}
 use Rattle.raster.specs.Picture.{kind_of}
 use Rattle.links.specs.declared.directories.Directories.{Directories}
-use Rattle.links.specs.Chain.{WellLinked}
 use Rattle.links.specs.Links.{walked, placed, listed, places_of}
 use Rattle.links.proofs.Accepted.{accepted_count, accepted_page}
 use Rattle.links.proofs.Chaining.{then_was, then_ok, passed}
@@ -19,7 +17,7 @@ use Rattle.entries.specs.declared.entry.Directory.{Directory}
 use Rattle.entries.specs.declared.fields.Fields.{Fields}
 use Rattle.entries.specs.declared.fields.Numbers.{Numbers}
 use Rattle.entries.specs.Entries.{entries_of, directory_at, scanned}
-use Rattle.entries.specs.Fields.{gathered, fielded}
+use Rattle.entries.specs.Fields.{fielded}
 use Rattle.pages.specs.declared.layout.Cut.{Cut}
 use Rattle.pages.specs.declared.layout.Layout.{Layout}
 use Rattle.pages.specs.declared.layout.Listing.{Listing}

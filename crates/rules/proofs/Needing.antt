@@ -1,16 +1,16 @@
 -- The tags that a page needs.
-use Rattle.std.proofs.Common.{◌≡◌, ℕ, Bool, true, false, cond, is_some, Some, None, Ok, Err, Option, Result, sym, refl, ap, ◌∙◌, subst, arith}
+use Rattle.std.proofs.Common.{◌≡◌, ℕ, Bool, true, false, cond, is_some, Some, None, Ok, Option, Result, sym, refl, ap, ◌∙◌, arith}
 use Rattle.std.proofs.lemmas.Bool.{true≢false}
 use Rattle.faults.specs.declared.fault.Fault.{Fault}
 use Rattle.faults.specs.Faults.{then}
-use Rattle.links.proofs.Chaining.{then_was, then_ok}
+use Rattle.links.proofs.Chaining.{then_was}
 use Rattle.entries.specs.declared.entry.Directory.{Directory}
 use Rattle.entries.specs.declared.fields.Fields.{Fields}
 use Rattle.entries.specs.declared.fields.Numbers.{Numbers}
 use Rattle.entries.specs.declared.fields.Table.{Table}
 use Rattle.pages.specs.declared.layout.Listing.{Listing}
 use Rattle.pages.specs.Pages.{tiled, found, offsets_tag, counts_tag, listing, tile_listing, complete}
-use Rattle.rules.specs.Rules.{Present, table_in, NeededTags}
+use Rattle.rules.specs.Rules.{Present, NeededTags}
 
 found_was : (d : Directory) (tag : ℕ) (m : Option Numbers) (v : Numbers) → found d tag m ≡ Ok v → m ≡ Some v
 found_was d tag None v e = absurd (let z : ◌≡◌ {A = ℕ} 0 1 = cc in omega arith)

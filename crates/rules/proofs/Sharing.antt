@@ -1,22 +1,19 @@
 -- Values in bytes that agree on a page's extents are equal.
-use Rattle.std.proofs.Common.{◌≡◌, ℕ, zero, suc, ◌+◌, ◌-◌, ◌*◌, ◌<◌, ◌≤◌, Bool, true, false, cond, ◌&&◌, eqb, ltb, leb, ◌⊎◌, List, [], ◌∷◌, ◌++◌, length, is_some, Some, None, Option, sym, refl, ap, ◌∙◌, subst, inl, inr, arith}
+use Rattle.std.proofs.Common.{◌≡◌, ℕ, zero, suc, ◌+◌, ◌-◌, ◌*◌, ◌<◌, ◌≤◌, Bool, true, false, cond, eqb, ltb, leb, ◌⊎◌, List, [], ◌∷◌, length, is_some, Some, None, Option, sym, refl, ◌∙◌, subst, inl, inr, arith}
 use Rattle.std.specs.List.{AllByRecursion as All}
-use Rattle.std.proofs.lemmas.Bool.{cases_lt, cond_both, cond-true, le-leb, lt-ltb, le-ltb, ltb-true, eqb-true, and_from, cases_Bool, true≢false}
+use Rattle.std.proofs.lemmas.Bool.{cases_lt, cond_both, cond-true, le-leb, lt-ltb, ltb-true, eqb-true, and_from, true≢false}
 use Rattle.octets.specs.Numbers.{short, long}
-use Rattle.octets.specs.Rows.{byte}
 use Rattle.octets.specs.declared.endian.Endian.{Endian}
 use Rattle.reads.specs.Agree.{Agree}
 use Rattle.reads.specs.Reads.{short_at, long_at}
 use Rattle.reads.proofs.Agreeing.{short_agrees, long_agrees, agree_in}
-use Rattle.entries.specs.declared.entry.Directory.{Directory}
 use Rattle.entries.specs.declared.entry.Entry.{Entry}
 use Rattle.entries.specs.declared.entry.Shape.{Shape}
 use Rattle.entries.specs.declared.entry.Shape.TheVariants.{One, OneShort, Bits, Many}
 use Rattle.entries.specs.declared.fields.Numbers.{Numbers}
-use Rattle.entries.specs.declared.fields.Table.{Table}
 use Rattle.entries.specs.Entries.{entry_at, entries_from, shape_of, size, size_of, home_of}
 use Rattle.entries.specs.Fields.{form_of, numbers_of, chosen, sought_from, number_at, nth_or}
-use Rattle.pages.specs.Extents.{Span, span, outer, value_spans, Covered, AgreeOn}
+use Rattle.pages.specs.Extents.{Span, span, outer, value_spans, AgreeOn}
 use Rattle.rules.specs.Rules.{IsNumber, Typed, Stored, EntryRules}
 
 -- the entries of two files that agree on them

@@ -1,33 +1,27 @@
 -- A page stays what it is in bytes that agree with its file on the extents.
-use Rattle.std.proofs.Common.{◌≡◌, ℕ, zero, suc, ◌+◌, ◌-◌, ◌*◌, ◌<◌, ◌≤◌, Bool, true, false, cond, ◌⊎◌, List, [], ◌∷◌, ◌++◌, map, length, get_or, is_some, Some, None, Ok, Err, Option, Result, sym, refl, ap, ◌∙◌, subst, inl, inr, arith}
+use Rattle.std.proofs.Common.{◌≡◌, ℕ, zero, suc, ◌+◌, ◌-◌, ◌*◌, ◌<◌, ◌≤◌, true, List, [], ◌∷◌, ◌++◌, map, length, is_some, Some, None, Ok, sym, refl, ap, ◌∙◌, subst, inl, inr, arith}
 use Rattle.std.specs.List.{range_with_len, AllByRecursion as All}
 use Rattle.std.proofs.lemmas.Bool.{cond_both}
 use Rattle.faults.specs.Faults.{then}
-use Rattle.octets.specs.Numbers.{short}
-use Rattle.octets.specs.Rows.{byte}
 use Rattle.octets.specs.declared.endian.Endian.{Endian}
 use Rattle.reads.specs.Agree.{Agree}
-use Rattle.reads.proofs.Agreeing.{short_agrees, agree_in}
+use Rattle.reads.proofs.Agreeing.{agree_in}
 use Rattle.entries.specs.declared.entry.Directory.{Directory}
 use Rattle.entries.specs.declared.entry.Entry.{Entry}
 use Rattle.entries.specs.declared.fields.Fields.{Fields}
-use Rattle.entries.specs.declared.fields.Numbers.{Numbers}
-use Rattle.entries.specs.declared.fields.Table.{Table}
-use Rattle.entries.specs.Entries.{entries_of, directory_at, shape_of, scanned}
-use Rattle.entries.specs.Fields.{gathered, fielded, sought, numbers_of, number_at, nth_or, count_or}
+use Rattle.entries.specs.Entries.{entries_of, shape_of, scanned}
+use Rattle.entries.specs.Fields.{gathered, fielded, sought, numbers_of, nth_or, count_or}
 use Rattle.pages.specs.declared.layout.Layout.{Layout}
-use Rattle.pages.specs.declared.layout.Values.{Values}
 use Rattle.pages.specs.Geometry.{segments_of, needed}
 use Rattle.pages.specs.Pages.{tiled, format_of, sampling_of, sides_of, values_of, laid_out}
-use Rattle.pages.specs.Segments.{offset_of, byte_count_of, filled}
-use Rattle.pages.specs.Opening.{page_of, page_at, HasPage}
+use Rattle.pages.specs.Segments.{offset_of, byte_count_of}
+use Rattle.pages.specs.Opening.{page_of}
 use Rattle.pages.specs.Extents.{Span, span, directory_span, segment_span, value_spans, extents, Covered, AgreeOn}
 use Rattle.pages.proofs.Stages.{page-3}
-use Rattle.rules.specs.Rules.{EntryRules, SegmentRules, fields_in, table_in}
-use Rattle.rules.specs.Local.{PageLocal}
+use Rattle.rules.specs.Rules.{EntryRules, SegmentRules, table_in}
 use Rattle.rules.proofs.Fielding.{scanned_was, fielded_ok}
 use Rattle.rules.proofs.Deciding.{filled_ok}
-use Rattle.rules.proofs.Meeting.{Paged, page_was}
+use Rattle.rules.proofs.Meeting.{Paged}
 use Rattle.rules.proofs.Sharing.{entries_same, entries_within, all_kept, Within, Kept, Same, entry_shares, On, sought_on, nth_same}
 
 -- spans within others

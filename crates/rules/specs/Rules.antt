@@ -1,5 +1,5 @@
 -- What a page of a file must be, in the words of the format and whatever the order of the checks. Assumes nothing.
-use Rattle.std.specs.Prelude.{◌≡◌, ℕ, ◌+◌, ◌*◌, ◌%◌, ◌<◌, ◌≤◌, min, Bool, true, false, cond, ◌⊎◌, List, [], ◌∷◌, length, is_some, Some, Ok, Option, slice_index}
+use Rattle.std.specs.Prelude.{◌≡◌, ℕ, ◌+◌, ◌%◌, ◌<◌, ◌≤◌, min, Bool, true, false, cond, ◌⊎◌, List, [], ◌∷◌, length, is_some, Some, Ok, Option, slice_index}
 use Rattle.std.specs.List.{AllByRecursion as All}
 use Rattle.octets.specs.Rows.{Bits}
 use Rattle.octets.specs.declared.endian.Endian.{Endian}

@@ -1,5 +1,5 @@
 -- What a sheet in memory shows. Assumes nothing.
-use Rattle.std.specs.Prelude.{◌≡◌, ℕ, ◌+◌, ◌*◌, ◌%◌, ◌<◌, Bool, true, false, cond, ◌&&◌, List, nat_le, nat_lt, slice_index}
+use Rattle.std.specs.Prelude.{◌≡◌, ℕ, ◌+◌, ◌*◌, ◌%◌, Bool, true, cond, ◌&&◌, List, nat_le, nat_lt, slice_index}
 use Rattle.std.proofs.Common.{inr, mod-lt}
 use Rattle.std.proofs.lemmas.Bool.{cond_both, and_parts, ltb-true, leb-true}
 use Rattle.raster.specs.Picture.{Picture, Sound, framed, empty, allowed, levels}

@@ -1,5 +1,5 @@
 -- Laws of what calls do to bytes and lists. Assumes nothing.
-use Rattle.std.proofs.Common.{◌≡◌, ℕ, ◌+◌, ◌-◌, ◌*◌, ◌<◌, ◌≤◌, min, ◌⊎◌, List, [], ◌∷◌, ◌++◌, length, get_or, take, drop, Ok, Err, Result, sym, refl, ap, ◌∙◌, subst, inl, inr, ⊎_elim, arith, length-drop, length-take}
+use Rattle.std.proofs.Common.{◌≡◌, ℕ, ◌+◌, ◌-◌, ◌*◌, ◌<◌, ◌≤◌, min, ◌⊎◌, List, ◌++◌, length, get_or, take, drop, Ok, Err, Result, sym, refl, ap, ◌∙◌, subst, inl, inr, ⊎_elim, arith, length-drop, length-take}
 use Rattle.std.proofs.lemmas.List.{get_or_append_left, get_or-take, get_or-drop, nil_from_length, take_all}
 use Rattle.std.proofs.lemmas.Bool.{cases_lt, cases_eq}
 use Rattle.faults.specs.declared.fault.Fault.{Fault}
@@ -8,7 +8,7 @@ use Rattle.faults.specs.Faults.{bare}
 use Rattle.octets.specs.Sectors.{sector, patched, laid, Touched, In, Lists}
 use Rattle.octets.proofs.Patches.{length_patched, sector_untouched}
 use Rattle.octets.proofs.Contents.{in_same}
-use Rattle.store.specs.Rules.{NoGain, Alone, Gain, Gained, Grown, Answered, filled, written}
+use Rattle.store.specs.Rules.{NoGain, Gain, Gained, Grown, Answered, filled, written}
 
 pub none_filled : (buffer xs : List ℕ) → length buffer ≡ 0 → buffer ≡ take (length buffer) xs
 none_filled buffer xs e = nil_from_length buffer e ∙ ap (λ (n : ℕ). take n xs) (sym e)

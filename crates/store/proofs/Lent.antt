@@ -1,10 +1,10 @@
 -- Laws of the bytes that count. Assumes nothing.
-use Rattle.std.proofs.Common.{◌≡◌, ℕ, ◌+◌, ◌-◌, ◌*◌, ◌^◌, ◌<◌, ◌≤◌, min, List, [], ◌∷◌, ◌++◌, length, get_or, take, drop, Ok, Err, Result, sym, refl, ap, ◌∙◌, subst, inl, inr, ⊎_elim, arith, length-take, rules}
+use Rattle.std.proofs.Common.{◌≡◌, ℕ, ◌+◌, ◌-◌, ◌^◌, ◌≤◌, min, List, length, take, drop, Ok, Err, Result, sym, ap, ◌∙◌, inl, ⊎_elim, arith, length-take}
 use Rattle.std.proofs.lemmas.List.{drop-take, take-take}
 use Rattle.octets.proofs.Patches.{take_patched, sector_untouched}
-use Rattle.octets.specs.Sectors.{sector, In, patched}
+use Rattle.octets.specs.Sectors.{patched}
 use Rattle.store.specs.Lent.{counted, alone}
-use Rattle.store.specs.Rules.{NoGain, Alone, Gain, Gained, Answered, written}
+use Rattle.store.specs.Rules.{NoGain, Gain, Gained, Answered, written}
 use Rattle.faults.specs.declared.fault.Fault.{Fault}
 
 pub length_counted : (xs : List ℕ) → length (counted xs) ≡ min (2 ^ 31 - 1) (length xs)

@@ -1,12 +1,12 @@
 -- What may be found, before and after the calls of a store. Assumes nothing.
-use Rattle.std.proofs.Common.{◌≡◌, ℕ, ◌+◌, ◌*◌, ◌<◌, ◌≤◌, true, false, ltb, ◌⊎◌, List, [], ◌∷◌, length, get_or, take, drop, Ok, Err, Result, sym, refl, ap, ◌∙◌, subst, inl, inr, ⊎_elim, arith}
+use Rattle.std.proofs.Common.{◌≡◌, ℕ, ◌+◌, ◌≤◌, List, [], ◌∷◌, length, get_or, take, drop, Ok, Err, Result, sym, refl, ap, ◌∙◌, subst, inl, inr, ⊎_elim, arith}
 use Rattle.std.proofs.lemmas.Bool.{lt-ltb, and_from, cond-true}
 use Rattle.faults.specs.declared.fault.Fault.{Fault}
 use Rattle.octets.specs.Sectors.{sector, patched, Touched, In, Lists}
 use Rattle.octets.proofs.Laid.{sectors_alike, patched_here, patched_out}
 use Rattle.octets.proofs.Patches.{length_patched}
 use Rattle.store.specs.Rules.{NoGain, Alone, Gain, Gained, Answered, filled, written}
-use Rattle.store.specs.Power.{Cut, Found, nothing, touches, write_lays}
+use Rattle.store.specs.Power.{Cut, Found, nothing, write_lays}
 use Rattle.store.specs.Promises.{KeptWord, Echoed, FoundOfWrite, OneFound}
 use Rattle.store.proofs.Changes.{touched_or}
 

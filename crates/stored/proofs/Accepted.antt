@@ -1,5 +1,5 @@
 -- What holds of the layout of every accepted page.
-use Rattle.std.proofs.Common.{◌≡◌, ℕ, ◌+◌, ◌<◌, ◌≤◌, min, Bool, true, false, cond, ◌&&◌, leb, List, length, get_or, Ok, refl, subst, inl, inr, ⊎_elim, arith}
+use Rattle.std.proofs.Common.{◌≡◌, ℕ, ◌<◌, ◌≤◌, min, Bool, true, false, ◌&&◌, leb, List, get_or, Ok, refl, subst, inl, inr, ⊎_elim, arith}
 use Rattle.std.proofs.lemmas.Bool.{and_from, le-leb}
 use Rattle.std.proofs.lemmas.Bool.Decides.{nat_tests}
 use Rattle.octets.specs.Rows.{Bits}
@@ -14,7 +14,7 @@ use Rattle.pages.specs.declared.layout.Sides.{Sides}
 use Rattle.pages.specs.declared.layout.Values.{Values}
 use Rattle.pages.specs.Pages.{between, page_side, interpreted, tiled}
 use Rattle.pages.specs.Opening.{page_of, page_at, opened, HasPage}
-use Rattle.rules.specs.Rules.{Grey, Rgb, KindRules, PageSide, SideRules, cut_by}
+use Rattle.rules.specs.Rules.{Grey, Rgb, KindRules, SideRules, cut_by}
 use Rattle.rules.proofs.Meeting.{Laid, Paged, page_was, opened_was}
 use Rattle.stored.specs.Sane.{sane}
 

@@ -1,5 +1,5 @@
 -- How pixels stand in bytes, case by case.
-use Rattle.std.proofs.Common.{◌≡◌, ℕ, suc, ◌+◌, ◌-◌, ◌*◌, ◌/◌, ◌%◌, ◌^◌, ◌<◌, ◌≤◌, Bool, true, false, cond, eqb, leb, List, length, sym, refl, ap, ◌∙◌, subst, ap₂, add-zero, mod-eq_of_lt, suc-mul, div-add-mod', zero-mul, mul-one, arith}
+use Rattle.std.proofs.Common.{◌≡◌, ℕ, suc, ◌+◌, ◌-◌, ◌*◌, ◌/◌, ◌%◌, ◌^◌, ◌<◌, ◌≤◌, eqb, List, length, refl, ap, ◌∙◌, ap₂, add-zero, mod-eq_of_lt, suc-mul, div-add-mod', zero-mul, mul-one, arith}
 use native.Mathlib.Nat.{zero-div, div-eq_of_lt, div-eq_of_lt-le, add-div_right}
 use lib.Arith.{digits_div, digits_mod}
 use Rattle.std.proofs.lemmas.Bool.{cond-true, cond-false, eq-eqb, ne_eqb, le-leb}
@@ -9,15 +9,15 @@ use Rattle.reads.specs.Reads.{inside}
 use Rattle.raster.specs.declared.grid.Kind.{Kind}
 use Rattle.raster.specs.declared.grid.Photometric.{Photometric}
 use Rattle.raster.specs.declared.grid.Photometric.TheVariants.{WhiteIsZero, BlackIsZero, Rgb}
-use Rattle.raster.specs.Picture.{allowed, number_of, kind_of}
+use Rattle.raster.specs.Picture.{number_of}
 use Rattle.pages.specs.declared.layout.Cut.{Cut}
 use Rattle.pages.specs.declared.layout.Layout.{Layout}
 use Rattle.pages.specs.Geometry.{samples_of, across, row_bytes}
 use Rattle.pages.specs.Segments.{offset_of}
-use Rattle.stored.specs.Pixels.{segment_of, row_start, first_sample, row_place, stored_pixel}
+use Rattle.stored.specs.Pixels.{segment_of, first_sample, row_place, stored_pixel}
 use Rattle.stored.specs.Reading.{sample_at, rgb_at, pixel_from}
-use Rattle.stored.specs.Reads.{Grey, Colour, Runs, Rows, Reads, PixelsRead}
-use Rattle.stored.specs.Sane.{Sane, sane, sane_parts}
+use Rattle.stored.specs.Reads.{Grey, Colour, Runs, Rows, PixelsRead}
+use Rattle.stored.specs.Sane.{Sane, sane_parts}
 use Rattle.stored.proofs.Pixel.{pixel_row_lem}
 
 -- the samples of a pixel

@@ -1,12 +1,12 @@
 -- The segments of a page among its extents.
-use Rattle.std.proofs.Common.{◌≡◌, ℕ, zero, suc, ◌+◌, ◌<◌, ◌≤◌, List, [], ◌∷◌, ◌++◌, map, length, get_or, sym, refl, ap, ◌∙◌, subst, inl, inr, ⊎_elim, arith}
+use Rattle.std.proofs.Common.{◌≡◌, ℕ, zero, suc, ◌+◌, ◌<◌, ◌≤◌, List, [], ◌∷◌, ◌++◌, map, length, get_or, sym, ap, ◌∙◌, subst, inl, inr, ⊎_elim, arith}
 use Rattle.std.specs.List.{range_with_len}
 use Rattle.std.proofs.lemmas.Bool.{cases_eq}
 use Rattle.entries.specs.Entries.{entries_of}
 use Rattle.pages.specs.declared.layout.Layout.{Layout}
 use Rattle.pages.specs.Geometry.{segments_of, needed}
 use Rattle.pages.specs.Segments.{offset_of}
-use Rattle.pages.specs.Extents.{Span, span, directory_span, segment_span, value_spans, extents, Covered}
+use Rattle.pages.specs.Extents.{Span, span, segment_span, value_spans, extents, Covered}
 
 covered_front : (xs ys : List Span) (i : ℕ) → Covered xs i → Covered (xs ++ ys) i
 covered_front [] ys i h = absurd h

@@ -1,13 +1,13 @@
 -- The picture of an accepted page depends on the bytes of its extents alone.
-use Rattle.std.proofs.Common.{◌≡◌, ℕ, ◌+◌, ◌%◌, ◌^◌, ◌<◌, ◌≤◌, Bool, cond, leb, List, length, sym, refl, ap, ◌∙◌, subst, ap₂, add-zero, arith}
-use Rattle.octets.specs.Digits.{packed, digit}
+use Rattle.std.proofs.Common.{◌≡◌, ℕ, ◌+◌, ◌%◌, ◌^◌, ◌<◌, ◌≤◌, Bool, cond, leb, List, length, sym, ap, ◌∙◌, subst, ap₂, add-zero, arith}
+use Rattle.octets.specs.Digits.{digit}
 use Rattle.octets.specs.Rows.{byte, per_byte}
 use Rattle.octets.proofs.Digits.{packed_same}
 use Rattle.reads.specs.Agree.{Agree}
 use Rattle.reads.specs.Reads.{inside}
 use Rattle.raster.specs.declared.grid.Photometric.{Photometric}
 use Rattle.raster.specs.declared.grid.Photometric.TheVariants.{WhiteIsZero, BlackIsZero, Rgb}
-use Rattle.raster.specs.Picture.{kind_of, framed}
+use Rattle.raster.specs.Picture.{kind_of}
 use Rattle.raster.specs.Views.{turn_by}
 use Rattle.raster.proofs.Frames.{framed_same}
 use Rattle.pages.specs.declared.layout.Layout.{Layout}

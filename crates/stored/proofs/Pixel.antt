@@ -1,5 +1,5 @@
 -- A pixel by its row, and by the place of its bytes alone.
-use Rattle.std.proofs.Common.{◌≡◌, ℕ, suc, ◌+◌, ◌-◌, ◌*◌, ◌/◌, ◌%◌, ◌^◌, ◌<◌, ◌≤◌, Bool, true, false, cond, leb, List, length, sym, refl, ap, ◌∙◌, subst, ap₂, add-zero, zero-add, zero-mul, div-one, arith}
+use Rattle.std.proofs.Common.{◌≡◌, ℕ, suc, ◌+◌, ◌-◌, ◌/◌, ◌%◌, ◌^◌, ◌<◌, ◌≤◌, Bool, true, false, cond, List, length, sym, refl, ap, ◌∙◌, subst, ap₂, add-zero, zero-add, zero-mul, div-one, arith}
 use native.Mathlib.Nat.{zero-div, zero-mod}
 use Rattle.std.proofs.lemmas.List.{get_or_past}
 use Rattle.std.proofs.lemmas.Bool.{cond-true, cond-false, eqb-true, leb-false, le-leb, lt-leb}
@@ -13,7 +13,7 @@ use Rattle.raster.specs.Picture.{allowed, kind_of}
 use Rattle.pages.specs.declared.layout.Layout.{Layout}
 use Rattle.pages.specs.Geometry.{samples_of}
 use Rattle.pages.specs.Segments.{offset_of}
-use Rattle.stored.specs.Pixels.{segment_of, row_start, first_sample, row_place, pixel_place, pixel_in, stored_pixel}
+use Rattle.stored.specs.Pixels.{segment_of, first_sample, row_place, pixel_place, pixel_in, stored_pixel}
 use Rattle.stored.specs.Reading.{start_of, sample_at, rgb_at, pixel_from}
 
 -- the pixel of n samples, the first of which is a given one of the row that begins at a place

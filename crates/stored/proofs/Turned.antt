@@ -1,5 +1,5 @@
 -- A place of a turned picture is shown from a place of the picture below.
-use Rattle.std.proofs.Common.{ℕ, ◌-◌, ◌<◌, Bool, true, false, cond, arith}
+use Rattle.std.proofs.Common.{ℕ, ◌<◌, Bool, true, false, cond, arith}
 use Rattle.raster.specs.Views.{swaps, mirrors, flips, reversed, column_below, row_below}
 
 reversed_below : (b : Bool) (n i : ℕ) → i < n → reversed b n i < n

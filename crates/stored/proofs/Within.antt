@@ -1,16 +1,16 @@
 -- The bytes of a pixel lie within the needed bytes of its segment.
-use Rattle.std.proofs.Common.{◌≡◌, ℕ, suc, ◌+◌, ◌-◌, ◌*◌, ◌/◌, ◌%◌, ◌<◌, ◌≤◌, min, true, cond, sym, ap, ◌∙◌, subst, mul-le-mul_right, mod-lt, suc-mul, div-lt_iff_lt-mul, div-add-mod', arith}
+use Rattle.std.proofs.Common.{◌≡◌, ℕ, suc, ◌+◌, ◌-◌, ◌*◌, ◌/◌, ◌%◌, ◌<◌, ◌≤◌, min, true, sym, ap, subst, mul-le-mul_right, mod-lt, suc-mul, div-lt_iff_lt-mul, div-add-mod', arith}
 use native.Mathlib.Nat.{lt-div-mul-add}
 use lib.Arith.{digits_lt, digits_div}
 use Rattle.std.proofs.lemmas.Bool.{cond_both, eqb-true}
-use Rattle.octets.specs.Rows.{ceil, Bits, per_byte, packed_size}
+use Rattle.octets.specs.Rows.{ceil, per_byte, packed_size}
 use Rattle.octets.proofs.Rows.{sample_within}
 use Rattle.raster.specs.declared.grid.Photometric.{Photometric}
 use Rattle.raster.specs.declared.grid.Photometric.TheVariants.{WhiteIsZero, BlackIsZero, Rgb}
 use Rattle.raster.specs.Picture.{allowed, kind_of}
 use Rattle.pages.specs.declared.layout.Layout.{Layout}
 use Rattle.pages.specs.Geometry.{samples_of, across, segments, segments_of, first_row, rows_of, row_bytes, needed}
-use Rattle.stored.specs.Pixels.{segment_of, row_start, first_sample}
+use Rattle.stored.specs.Pixels.{segment_of, first_sample}
 use Rattle.stored.specs.Reading.{start_of}
 use Rattle.stored.specs.Sane.{Sane, allowed_bits}
 

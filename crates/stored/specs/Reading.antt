@@ -1,5 +1,5 @@
 -- A pixel by the place of its bytes alone. Assumes nothing.
-use Rattle.std.specs.Prelude.{ℕ, ◌+◌, ◌*◌, ◌/◌, ◌%◌, ◌^◌, cond, List}
+use Rattle.std.specs.Prelude.{ℕ, ◌+◌, ◌/◌, ◌%◌, ◌^◌, cond, List}
 use Rattle.octets.specs.Digits.{packed, digit}
 use Rattle.octets.specs.Rows.{byte, per_byte}
 use Rattle.reads.specs.Reads.{inside}

@@ -1,6 +1,6 @@
 -- What the calls of a part of a store come to. Assumes nothing.
-use Rattle.std.proofs.Common.{◌≡◌, ℕ, ◌+◌, ◌-◌, ◌*◌, ◌/◌, ◌^◌, ◌<◌, ◌≤◌, min, Bool, true, false, ◌⊎◌, List, [], ◌∷◌, ◌++◌, map, length, get_or, take, drop, Ok, Err, Result, sym, refl, ap, ◌∙◌, subst, inl, inr, ⊎_elim, arith, length-drop, take-append-drop, length-take}
-use Rattle.std.proofs.lemmas.List.{drop-take, take-take, drop-drop, ext_get_or, nil_from_length}
+use Rattle.std.proofs.Common.{◌≡◌, ℕ, ◌+◌, ◌-◌, ◌*◌, ◌/◌, ◌<◌, ◌≤◌, true, false, List, [], length, take, drop, Ok, Err, Result, sym, refl, ap, ◌∙◌, subst, inl, inr, ⊎_elim, arith}
+use Rattle.std.proofs.lemmas.List.{drop-take, take-take, drop-drop, ext_get_or}
 use Rattle.std.proofs.lemmas.Bool.{cases_Bool}
 use Rattle.faults.specs.declared.fault.Fault.{Fault}
 use Rattle.octets.specs.Sectors.{sector, patched, Touched, In, Lists}

@@ -1,13 +1,13 @@
 -- Laws of a part of a store. Assumes nothing.
-use Rattle.std.specs.Prelude.{◌≡◌, ℕ, ◌+◌, ◌-◌, ◌*◌, ◌/◌, ◌%◌, ◌^◌, ◌<◌, ◌≤◌, min, Bool, true, false, cond, ◌&&◌, ◌⊎◌, List, [], ◌∷◌, ◌++◌, map, length, get_or, take, drop, ◌==◌, nat_le, slice_index, slice_index_or, refl}
-use Rattle.std.proofs.Common.{sym, ap, subst, ◌∙◌, inl, inr, ⊎_elim, arith, length-take, length-drop}
+use Rattle.std.specs.Prelude.{◌≡◌, ℕ, ◌+◌, ◌-◌, ◌*◌, ◌/◌, ◌%◌, ◌^◌, ◌<◌, ◌≤◌, true, false, List, [], ◌∷◌, map, length, get_or, take, drop, ◌==◌, nat_le, slice_index, slice_index_or}
+use Rattle.std.proofs.Common.{sym, ap, subst, ◌∙◌, inl, ⊎_elim, arith, length-take, length-drop}
 use Rattle.std.proofs.Math.Seq.{drop-nil}
-use Rattle.std.proofs.lemmas.List.{drop-take, take-take, drop-drop, get_or-take, get_or-drop, ext_get_or, length-take-le}
+use Rattle.std.proofs.lemmas.List.{get_or-take, get_or-drop, ext_get_or, length-take-le}
 use Rattle.std.proofs.lemmas.Bool.{cases_Bool, cond-true, cond-false, and_parts, eqb-true, leb-true}
-use Rattle.octets.specs.Sectors.{sector, patched, Touched, In, Lists}
+use Rattle.octets.specs.Sectors.{sector, In, Lists}
 use Rattle.tray.specs.Parts.{fits, cut, cut_lists}
-use Rattle.store.specs.Rules.{Laws, NoGain, Alone, Gain}
-use Rattle.octets.proofs.Patches.{length_sector, get_or_sector, length_patched, patched_same}
+use Rattle.store.specs.Rules.{Laws}
+use Rattle.octets.proofs.Patches.{length_sector, get_or_sector}
 use Rattle.octets.proofs.Contents.{in_map, from_map, in_same}
 
 pub fits_start : (n from len : ℕ) → fits n from len ≡ true → 512 * (from / 512) ≡ from

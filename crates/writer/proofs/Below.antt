@@ -1,10 +1,9 @@
 -- What a view shows, by the picture below.
-use Rattle.std.proofs.Common.{◌≡◌, ℕ, ◌+◌, ◌-◌, ◌<◌, ◌≤◌, Bool, true, false, cond, ◌&&◌, ltb, Ok, Err, Result, sym, refl, ap, ◌∙◌, arith}
-use Rattle.std.proofs.lemmas.Bool.{and_parts, cond-true, cond-false, cond_both, lt-ltb, and_from, ltb-true}
+use Rattle.std.proofs.Common.{◌≡◌, ℕ, ◌+◌, ◌<◌, Bool, true, false, cond, Ok, Err, Result, ap, ◌∙◌, arith}
+use Rattle.std.proofs.lemmas.Bool.{and_parts, cond-true}
 use Rattle.faults.specs.declared.fault.Fault.{Fault}
-use Rattle.raster.specs.Picture.{Picture, empty, within, framed, pixel_of}
+use Rattle.raster.specs.Picture.{Picture, empty, framed}
 use Rattle.raster.specs.Views.{fits, rectangle, crop_of, turn_by, swaps, mirrors, flips, reversed, column_below, row_below}
-use Rattle.raster.specs.Soundness.{fits_parts}
 use Rattle.raster.proofs.Frames.{framed_inside}
 use Rattle.pages.specs.Pages.{between}
 use Rattle.plans.specs.declared.view.View.{View}

@@ -1,12 +1,12 @@
 -- The bytes of one RGB pixel.
-use Rattle.std.proofs.Common.{◌≡◌, ℕ, ◌+◌, ◌-◌, ◌*◌, ◌/◌, ◌%◌, ◌<◌, ◌≤◌, Some, None, Option, sym, refl, ap, ◌∙◌, arith}
+use Rattle.std.proofs.Common.{◌≡◌, ℕ, ◌+◌, ◌-◌, ◌/◌, ◌%◌, ◌<◌, Some, None, Option, ap, ◌∙◌, arith}
 use native.Mathlib.Nat.{mod-le}
 use Rattle.raster.specs.Picture.{framed}
 use Rattle.pages.specs.Geometry.{first_column, first_row, row_bytes}
 use Rattle.plans.specs.declared.outline.Outline.{Outline}
 use Rattle.plans.specs.Outlines.{Proper, segment_size}
 use Rattle.plans.proofs.Outlines.{segment_positive, row_positive}
-use Rattle.writer.specs.Spots.{spot_of, pixel_at}
+use Rattle.writer.specs.Spots.{spot_of}
 use Rattle.writer.specs.Painting.{colour_at, Known, Shared}
 use Rattle.writer.proofs.Samples.{before}
 

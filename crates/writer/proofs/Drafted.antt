@@ -1,15 +1,13 @@
 -- The bytes and the sectors of a draft.
-use Rattle.std.proofs.Common.{◌≡◌, ℕ, suc, ◌+◌, ◌-◌, ◌*◌, ◌/◌, ◌%◌, ◌<◌, ◌≤◌, min, Bool, true, false, cond, not, ◌&&◌, ltb, leb, List, [], ◌∷◌, ◌++◌, length, Ok, Err, Result, sym, refl, ap, ◌∙◌, subst, ap₂, ⊎_elim, mul-le-mul_right, suc-mul, div-lt_iff_lt-mul, arith}
+use Rattle.std.proofs.Common.{◌≡◌, ℕ, suc, ◌+◌, ◌-◌, ◌*◌, ◌/◌, ◌<◌, ◌≤◌, min, Bool, true, false, cond, not, ltb, List, [], length, Ok, Err, Result, sym, refl, ap, ◌∙◌, subst, ⊎_elim, mul-le-mul_right, suc-mul, div-lt_iff_lt-mul, arith}
 use Rattle.std.proofs.lemmas.List.{nil_from_length}
 use Rattle.std.proofs.lemmas.Bool.{cond-true, cond-false, cases_lt, lt-ltb, le-ltb, le-leb, lt-leb, and_from, and_left, and_right, and_parts}
 use Rattle.faults.specs.declared.fault.Fault.{Fault}
 use Rattle.faults.specs.Faults.{refused}
 use Rattle.octets.specs.Rows.{byte, tabulate}
 use Rattle.octets.specs.Sectors.{sector, patched}
-use Rattle.octets.specs.Writes.{Put}
 use Rattle.octets.proofs.Patches.{length_sector}
 use Rattle.octets.proofs.Puts.{patched_nil}
-use Rattle.raster.specs.declared.grid.Kind.{Kind}
 use Rattle.raster.specs.Picture.{Picture, Sound}
 use Rattle.raster.specs.Views.{fits, swaps}
 use Rattle.raster.specs.Soundness.{fits_parts}
@@ -20,8 +18,8 @@ use Rattle.plans.specs.declared.view.View.{View}
 use Rattle.plans.specs.Outlines.{Proper, segments_in, segment_size, head_size, block_size}
 use Rattle.plans.specs.Directories.{directory_bytes}
 use Rattle.plans.specs.Blocks.{fields_in, block, segments_byte, block_byte}
-use Rattle.plans.specs.Plans.{plan_outline, plan_block}
-use Rattle.plans.specs.Views.{viewed, shows, shows_in, view_width, view_height}
+use Rattle.plans.specs.Plans.{plan_outline}
+use Rattle.plans.specs.Views.{viewed, shows, view_width, view_height}
 use Rattle.plans.proofs.Outlines.{some_segments, segment_positive, segment_most}
 use Rattle.plans.proofs.Views.{views_show, plan_proper}
 use Rattle.blocks.proofs.Places.{length_block, sector_bytes}

@@ -1,10 +1,9 @@
 -- The segment and the row of a byte of the segments.
-use Rattle.std.proofs.Common.{◌≡◌, ℕ, ◌+◌, ◌*◌, ◌/◌, ◌%◌, ◌<◌, ◌≤◌, div-le_self, arith}
-use native.Mathlib.Nat.{mod-le}
+use Rattle.std.proofs.Common.{ℕ, ◌/◌, ◌<◌, ◌≤◌, div-le_self, arith}
 use Rattle.std.proofs.lemmas.Nat.{mul-le}
 use Rattle.pages.specs.Geometry.{across, first_row}
 use Rattle.plans.specs.declared.outline.Outline.{Outline}
-use Rattle.plans.specs.Outlines.{Proper, segment_size}
+use Rattle.plans.specs.Outlines.{Proper}
 use Rattle.plans.proofs.Outlines.{segment_sides}
 
 pub first_row_few : (q : Outline) → Proper q → (k : ℕ) → k < 1024 → first_row q.cut q.width k ≤ 16777216

@@ -1,8 +1,8 @@
 -- Samples of one and of three to a pixel, put into bytes.
-use Rattle.std.proofs.Common.{◌≡◌, ℕ, zero, suc, ◌+◌, ◌-◌, ◌*◌, ◌/◌, ◌%◌, ◌^◌, ◌<◌, ◌≤◌, Bool, true, false, cond, ◌&&◌, ◌||◌, eqb, ltb, sym, refl, ap, ◌∙◌, subst, ap₂, ⊎_elim, mul-le-mul_right, mod-lt, mod-eq_of_lt, mul_comm, pow-suc, mul-one, div-mul-le_self, div-one, add-one, arith}
+use Rattle.std.proofs.Common.{◌≡◌, ℕ, zero, suc, ◌+◌, ◌-◌, ◌*◌, ◌/◌, ◌%◌, ◌^◌, ◌<◌, ◌≤◌, true, eqb, ltb, sym, refl, ap, ◌∙◌, subst, ap₂, mul-le-mul_right, mod-lt, mod-eq_of_lt, mul_comm, pow-suc, div-one, arith}
 use native.Mathlib.Nat.{pow-zero, mod-one, pow-le-pow_right}
 use lib.Arith.{digits_lt}
-use Rattle.std.proofs.lemmas.Bool.{cond-true, cond-false, cond_both, cases_lt, lt-ltb, le-ltb, eqb-true, false≢true}
+use Rattle.std.proofs.lemmas.Bool.{cond-true, cond-false, cond_both, lt-ltb, le-ltb, eqb-true}
 use Rattle.std.proofs.lemmas.Nat.{pow_pos, one_shl, div-mul-add, mod-mul-add, div-add-mod'}
 use Rattle.octets.specs.Digits.{packed, digit}
 use Rattle.octets.specs.Rows.{Bits, per_byte, packed_size, padded}
@@ -13,10 +13,9 @@ use Rattle.raster.specs.declared.grid.Photometric.{Photometric}
 use Rattle.raster.specs.declared.grid.Photometric.TheVariants.{WhiteIsZero, BlackIsZero, Rgb}
 use Rattle.raster.specs.Picture.{Picture, Sound, framed, within, allowed, levels, kind_of}
 use Rattle.pages.specs.Geometry.{samples_of}
-use Rattle.stored.specs.Sane.{allowed_bits}
 use Rattle.plans.specs.declared.outline.Outline.{Outline}
 use Rattle.plans.specs.declared.view.View.{View}
-use Rattle.plans.specs.Views.{viewed, shows, view_width, view_height}
+use Rattle.plans.specs.Views.{viewed, view_width, view_height}
 use Rattle.plans.proofs.Views.{views_show}
 use Rattle.writer.specs.declared.spots.Spot.{Spot}
 use Rattle.writer.specs.Spots.{pixel_at, sample_at, padded_at, byte_at}

@@ -1,5 +1,5 @@
 -- The sectors of a draft. Assumes nothing.
-use Rattle.std.specs.Prelude.{ℕ, ◌≤◌, Bool, cond, ◌&&◌, List, [], nat_le}
+use Rattle.std.specs.Prelude.{ℕ, Bool, cond, ◌&&◌, List, [], nat_le}
 use Rattle.octets.specs.Sectors.{sector}
 use Rattle.raster.specs.Picture.{Picture}
 use Rattle.plans.specs.declared.outline.Outline.{Outline}

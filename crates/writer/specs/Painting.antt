@@ -1,5 +1,5 @@
 -- What the bytes of a draft are painted from. Assumes nothing.
-use Rattle.std.specs.Prelude.{◌≡◌, ℕ, ◌+◌, ◌-◌, ◌/◌, ◌%◌, ◌<◌, ◌≤◌, Bool, true, Some, None, Option}
+use Rattle.std.specs.Prelude.{◌≡◌, ℕ, ◌-◌, ◌/◌, ◌%◌, ◌<◌, ◌≤◌, true, Some, None, Option}
 use Rattle.raster.specs.Picture.{Picture}
 use Rattle.plans.specs.declared.outline.Outline.{Outline}
 use Rattle.plans.specs.declared.view.View.{View}

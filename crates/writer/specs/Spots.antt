@@ -1,5 +1,5 @@
 -- The bytes of the segments by their place in the picture. Assumes nothing.
-use Rattle.std.specs.Prelude.{ℕ, ◌+◌, ◌-◌, ◌*◌, ◌/◌, ◌%◌, ◌^◌}
+use Rattle.std.specs.Prelude.{ℕ, ◌+◌, ◌*◌, ◌/◌, ◌%◌, ◌^◌}
 use Rattle.octets.specs.Digits.{packed, digit}
 use Rattle.octets.specs.Rows.{per_byte, padded}
 use Rattle.raster.specs.Picture.{framed}

@@ -1,4 +1,4 @@
-use Rattle.std.proofs.Common.{◌≡◌, ℕ, ◌-◌, ◌<◌, ◌≤◌, min, length, take, sym, ap, ◌∙◌, arith, length-take, rules}
+use Rattle.std.proofs.Common.{◌-◌, ◌<◌, length, arith, length-take, rules}
 use Rattle.std.proofs.lemmas.List.{places}
 use Rattle.store.proofs.Changes.{sector_got}
 use Rattle.hold.proofs.read_sector.Goals as goal

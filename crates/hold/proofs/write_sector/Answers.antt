@@ -1,4 +1,4 @@
-use Rattle.std.proofs.Common.{◌≡◌, ℕ, ◌-◌, ◌<◌, ◌≤◌, min, length, take, sym, refl, ap, ◌∙◌, arith}
+use Rattle.std.proofs.Common.{◌-◌, ◌<◌, ◌≤◌, length, sym, arith}
 use Rattle.octets.proofs.Laid.{laid_past}
 use Rattle.store.proofs.Changes.{front_is, sector_put, sector_gain, past_gain}
 use Rattle.hold.proofs.write_sector.Goals as goal

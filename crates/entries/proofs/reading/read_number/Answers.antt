@@ -1,4 +1,4 @@
-use Rattle.std.proofs.Common.{◌≡◌, ◌^◌, ◌<◌, length, sym, ◌∙◌, arith}
+use Rattle.std.proofs.Common.{◌^◌, ◌<◌, length, sym, ◌∙◌, arith}
 use Rattle.entries.specs.declared.fields.Form.TheVariants.{Short, Long}
 use Rattle.entries.specs.Fields.{place_of}
 use Rattle.entries.proofs.Looks.{looked_none}

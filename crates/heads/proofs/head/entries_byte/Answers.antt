@@ -1,4 +1,4 @@
-use Rattle.std.proofs.Common.{◌/◌, ◌%◌, sym, refl, ap, ◌∙◌, ap₂}
+use Rattle.std.proofs.Common.{◌%◌, sym, refl, ap, ◌∙◌, ap₂}
 use Rattle.octets.specs.Rows.{byte}
 use Rattle.plans.proofs.Outlines.{some_segments}
 use Rattle.heads.specs.declared.contents.Content.{Content}

@@ -1,7 +1,5 @@
-use Rattle.std.proofs.Common.{◌+◌, ◌-◌, ◌*◌, ◌<◌, ◌≤◌, sym, refl, ap, ◌∙◌, arith}
+use Rattle.std.proofs.Common.{ap, ◌∙◌, arith}
 use Rattle.octets.specs.Digits.{byte_of}
-use Rattle.plans.specs.Outlines.{directory_size}
-use Rattle.heads.specs.Tags.{count}
 use Rattle.heads.proofs.Directory.{first_byte, middle_byte, link_byte, outer_byte}
 use Rattle.heads.proofs.head.head_byte.Goals as goal
 

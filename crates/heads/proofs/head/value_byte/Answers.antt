@@ -1,8 +1,8 @@
-use Rattle.std.proofs.Common.{◌≡◌, ℕ, ◌+◌, ◌-◌, ◌*◌, ◌/◌, ◌%◌, ◌<◌, ◌≤◌, leb, sym, refl, ap, ◌∙◌, ap₂, ⊎_elim, arith}
+use Rattle.std.proofs.Common.{ℕ, ◌+◌, ◌-◌, ◌*◌, ◌/◌, ◌%◌, ◌<◌, ◌≤◌, leb, refl, ap, ◌∙◌, ⊎_elim, arith}
 use Rattle.std.proofs.lemmas.Bool.{cond_both}
 use Rattle.octets.specs.Digits.{byte_of}
 use Rattle.plans.specs.Outlines.{segments_in, segment_size, bits_size, longs_size}
-use Rattle.heads.specs.Values.{bits_at, offsets_at, counts_at, ratios_at, offset_of}
+use Rattle.heads.specs.Values.{bits_at, offsets_at, counts_at, offset_of}
 use Rattle.heads.proofs.Outer.{bits_byte, offset_byte, count_byte, ratio_byte, ratio_left}
 use Rattle.heads.proofs.head.value_byte.Goals as goal
 use Rattle.heads.proofs.head.value_byte.Goals.{else-i-counts-2-via-then-i-counts-2+else-i-counts-3, else-i-counts-2-via-else-i-counts-2}

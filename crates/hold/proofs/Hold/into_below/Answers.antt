@@ -1,5 +1,4 @@
-use Rattle.std.proofs.Common.{ℕ, List, sym, ap, ◌∙◌, subst}
-use Rattle.octets.specs.Sectors.{sector}
+use Rattle.std.proofs.Common.{sym, ◌∙◌}
 use Rattle.hold.specs.KeptLaws.{with_below, sector_below}
 use Rattle.hold.proofs.Kept.{none_overlaid}
 use Rattle.hold.proofs.Hold.into_below.Goals as goal

@@ -1,7 +1,7 @@
-use Rattle.std.proofs.Common.{◌≡◌, ℕ, ◌+◌, ◌*◌, ◌/◌, ◌%◌, ◌<◌, ◌≤◌, List, [], length, get_or, set, Some, None, Option, sym, refl, ap, ◌∙◌, arith}
+use Rattle.std.proofs.Common.{◌≡◌, ℕ, ◌/◌, ◌%◌, ◌<◌, List, [], length, get_or, set, None, Option, sym, refl, ap, ◌∙◌, arith}
 use Rattle.std.proofs.lemmas.List.{get_or_default}
 use Rattle.hold.specs.declared.slots.Slot.{Slot}
-use Rattle.hold.specs.Kept.{tagged, overlaid, kept}
+use Rattle.hold.specs.Kept.{tagged, overlaid}
 use Rattle.octets.specs.Sectors.{patched}
 use Rattle.hold.proofs.Kept.{length_quiet, patch_same, quiet_grown, kept_same, kept_is}
 use Rattle.hold.proofs.Hold.put.Goals as goal

@@ -1,4 +1,4 @@
-use Rattle.std.proofs.Common.{ℕ, ◌+◌, ◌-◌, ◌≤◌, length}
+use Rattle.std.proofs.Common.{◌-◌, length}
 use Rattle.hold.proofs.Kept.{Progress}
 use Rattle.hold.proofs.HoldCard.write.Given as goal
 

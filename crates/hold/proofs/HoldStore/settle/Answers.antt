@@ -1,6 +1,6 @@
-use Rattle.std.proofs.Common.{◌≡◌, ℕ, ◌%◌, ◌<◌, ◌≤◌, false, sym, ap, ◌∙◌, ⊎_elim, arith}
+use Rattle.std.proofs.Common.{◌≡◌, ◌%◌, ap, ◌∙◌, ⊎_elim, arith}
 use Rattle.std.proofs.lemmas.Bool.{cases_eq}
-use Rattle.hold.specs.Kept.{kept, overlaid}
+use Rattle.hold.specs.Kept.{overlaid}
 use Rattle.store.proofs.Changes.{nogain_trans}
 use Rattle.hold.proofs.Kept.{quiet_same, quiet_trans, settle_alone, below_nogain}
 use Rattle.hold.proofs.HoldStore.settle.Goals as goal

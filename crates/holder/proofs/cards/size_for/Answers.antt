@@ -1,10 +1,9 @@
-use Rattle.std.proofs.Common.{◌≡◌, ℕ, ◌<◌, ◌≤◌, Ok, Err, sym, refl, ap, ◌∙◌, subst, arith}
+use Rattle.std.proofs.Common.{◌≡◌, ◌<◌, ◌≤◌, Ok, Err, sym, ap, ◌∙◌, subst, arith}
 use Rattle.std.proofs.lemmas.Result.{err_from_is_err_and}
-use Rattle.plans.specs.declared.outline.Outline.{Outline}
 use Rattle.plans.specs.Views.{view_checked}
 use Rattle.plans.specs.Plans.{plan_outline}
 use Rattle.plans.specs.Outlines.{Proper, segments_in, block_size}
-use Rattle.drafts.specs.Steps.{sized_for, outline_by, width_of, height_of}
+use Rattle.drafts.specs.Steps.{outline_by, width_of, height_of}
 use Rattle.holder.proofs.Sizes.{check_shows, sized_view, sized_many, sized_ok, view_proper}
 use Rattle.holder.proofs.cards.size_for.Goals as goal
 

@@ -1,4 +1,4 @@
-use Rattle.std.proofs.Common.{◌≡◌, ℕ, ◌-◌, take, ap, arith}
+use Rattle.std.proofs.Common.{◌≡◌, ◌-◌, take, ap, arith}
 use Rattle.drafts.specs.Mem.{mem_of}
 use Rattle.holder.proofs.Carries.{wrote_by}
 use Rattle.holder.proofs.cards.write_front.Goals as goal

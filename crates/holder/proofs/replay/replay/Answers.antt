@@ -1,4 +1,4 @@
-use Rattle.std.proofs.Common.{◌≡◌, ℕ, ◌<◌, ◌≤◌, List, [], length, get_or, take, sym, refl, ap, ◌∙◌, subst, arith, take_all}
+use Rattle.std.proofs.Common.{◌≡◌, ◌<◌, ◌≤◌, List, [], length, get_or, take, sym, refl, ap, subst, arith, take_all}
 use Rattle.drafts.specs.Mem.{Mem, mem_of}
 use Rattle.drafts.specs.Steps.{Held, world}
 use Rattle.law.specs.Run.{Line as RunLine, LawfulRun, Stepped}

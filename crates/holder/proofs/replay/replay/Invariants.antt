@@ -1,4 +1,4 @@
-use Rattle.std.proofs.Common.{◌≡◌, ℕ, map, length, take, drop}
+use Rattle.std.proofs.Common.{take}
 use Rattle.drafts.specs.Mem.{mem_of}
 use Rattle.law.proofs.Runs.{HeldTo}
 use Rattle.holder.specs.Worlds.{worldOf}

@@ -1,9 +1,9 @@
-use Rattle.std.proofs.Common.{◌≡◌, ℕ, ◌-◌, ◌<◌, ◌≤◌, true, false, length, take, Ok, Err, sym, refl, ap, ◌∙◌, arith}
+use Rattle.std.proofs.Common.{◌≡◌, ◌-◌, true, false, length, take, sym, refl, ap, ◌∙◌, arith}
 use Rattle.std.proofs.lemmas.List.{length-set, length-take-le}
 use Rattle.std.proofs.lemmas.Bool.Decides.{nat_tests}
 use Rattle.octets.specs.Numbers.{long}
 use Rattle.reads.proofs.Gains.{no_gain, no_gain_then}
-use Rattle.links.specs.Links.{ended, followed}
+use Rattle.links.specs.Links.{ended}
 use Rattle.links.proofs.Following.{followed_ok, link_is, follow_tells, turns_left, turn_ends, turn_fails, walk_turns, rest_stays}
 use Rattle.links.proofs.walk.follow_links.Goals as goal
 

@@ -1,6 +1,6 @@
 use Rattle.std.proofs.Common.{refl, ap, ◌∙◌, arith}
 use Rattle.pnm.specs.Netpbm.{bilevel}
-use Rattle.pnm.proofs.Samples.{Shown, shown, bilevel_grey, bilevel_levels, bilevel_bit}
+use Rattle.pnm.proofs.Samples.{shown, bilevel_grey, bilevel_levels, bilevel_bit}
 use Rattle.netpbm.proofs.rows.bit.Goals as goal
 
 pub grey-requires : goal.grey-requires

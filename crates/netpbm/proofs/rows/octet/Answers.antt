@@ -1,8 +1,7 @@
-use Rattle.std.proofs.Common.{◌≡◌, ℕ, ◌+◌, ◌*◌, ◌^◌, ◌<◌, ◌≤◌, sym, refl, ap, ◌∙◌, subst, ap₂, arith, pow_mono}
+use Rattle.std.proofs.Common.{◌≡◌, ℕ, ◌+◌, ◌*◌, refl, ap, ◌∙◌, ap₂, arith, pow_mono}
 use Rattle.raster.specs.Picture.{Picture}
 use Rattle.raster.specs.Views.{rectangle}
 use Rattle.pnm.specs.Netpbm.{black}
-use Rattle.octets.specs.Digits.{packed}
 use Rattle.octets.proofs.Digits.{packed_below}
 use Rattle.netpbm.proofs.Octets.{packed_none, packed_more}
 use Rattle.pnm.proofs.Samples.{black_bit}

@@ -1,4 +1,4 @@
-use Rattle.std.proofs.Common.{ℕ, ◌+◌, ◌≤◌, List, length, sym, refl, ap, ◌∙◌, subst, arith}
+use Rattle.std.proofs.Common.{ℕ, List, length, refl, ap, ◌∙◌, arith}
 use Rattle.raster.specs.Picture.{Picture}
 use Rattle.raster.specs.Views.{rectangle, fits}
 use Rattle.pnm.specs.Netpbm.{row_bytes}

@@ -1,9 +1,9 @@
-use Rattle.std.proofs.Common.{◌≡◌, ℕ, List, length, sym, refl, ap, ◌∙◌, subst, arith}
+use Rattle.std.proofs.Common.{ℕ, List, length, refl, ap, ◌∙◌, arith}
 use Rattle.raster.specs.Picture.{Picture}
 use Rattle.raster.specs.Views.{rectangle}
 use Rattle.pnm.specs.Netpbm.{pixel_bytes}
 use Rattle.raster.specs.declared.grid.Area.{Area}
-use Rattle.pnm.proofs.Samples.{Shown, shown, shown_bytes}
+use Rattle.pnm.proofs.Samples.{shown, shown_bytes}
 use Rattle.octets.proofs.Puts.{put_none, put_then, put_as}
 use Rattle.octets.proofs.Runs.{run_more, run_room}
 use Rattle.netpbm.proofs.rows.put_pixels.Goals as goal

@@ -1,8 +1,8 @@
-use Rattle.std.proofs.Common.{◌≡◌, ℕ, ◌+◌, ◌*◌, ◌<◌, ◌≤◌, length, Err, sym, refl, ap, ◌∙◌, subst, arith}
+use Rattle.std.proofs.Common.{◌<◌, length, Err, sym, refl, ap, ◌∙◌, subst, arith}
 use Rattle.std.proofs.lemmas.Bool.{leb-true, leb-false}
 use Rattle.raster.specs.Picture.{allowed}
 use Rattle.raster.specs.Views.{rectangle}
-use Rattle.pnm.specs.Netpbm.{head, body}
+use Rattle.pnm.specs.Netpbm.{head}
 use Rattle.raster.specs.declared.grid.Kind.{Kind}
 use Rattle.pnm.proofs.Heads.{length_body}
 use Rattle.netpbm.proofs.Windows.{window_length, too_small, written, whole}

@@ -1,4 +1,4 @@
-use Rattle.std.proofs.Common.{◌≡◌, ◌+◌, ◌-◌, ◌/◌, ◌^◌, ◌<◌, sym, ap, ◌∙◌, subst}
+use Rattle.std.proofs.Common.{◌≡◌, ◌+◌, ◌/◌, ◌^◌, ◌<◌, sym, ap, ◌∙◌, subst}
 use Rattle.octets.specs.Rows.{ceil}
 use Rattle.pages.proofs.Cutting.{ceil_fits}
 use Rattle.pages.proofs.geometry.parts.Goals as goal

@@ -1,4 +1,4 @@
-use Rattle.std.proofs.Common.{◌≡◌, ◌<◌, length, ap, ◌∙◌, arith}
+use Rattle.std.proofs.Common.{length, ap, ◌∙◌, arith}
 use Rattle.places.specs.Search.{passed, outer_span}
 use Rattle.places.proofs.Entering.{short_twelve, long_twelve, entry_passed}
 use Rattle.places.proofs.look.pass_entry.Goals as goal

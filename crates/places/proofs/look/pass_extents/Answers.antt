@@ -1,4 +1,4 @@
-use Rattle.std.proofs.Common.{◌≡◌, length, ap, ◌∙◌}
+use Rattle.std.proofs.Common.{length, ap, ◌∙◌}
 use Rattle.entries.specs.Entries.{entries_of}
 use Rattle.entries.proofs.Looks.{looked_on}
 use Rattle.pages.specs.Extents.{value_spans}

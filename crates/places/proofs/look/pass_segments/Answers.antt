@@ -1,9 +1,9 @@
-use Rattle.std.proofs.Common.{◌≡◌, ◌+◌, ◌-◌, ◌<◌, ◌≤◌, sym, refl, ap, ◌∙◌, subst, arith}
+use Rattle.std.proofs.Common.{◌≡◌, ◌+◌, ◌-◌, ◌<◌, ◌≤◌, sym, ap, ◌∙◌, subst, arith}
 use native.Mathlib.Nat.{sub-zero}
 use Rattle.entries.proofs.Looks.{looked_none, looked_on}
 use Rattle.pages.specs.Extents.{segment_span}
 use Rattle.pages.specs.Geometry.{segments_of}
-use Rattle.places.specs.Search.{span_of, passed, passed_segments}
+use Rattle.places.specs.Search.{passed, passed_segments}
 use Rattle.places.proofs.Limits.{segments_few}
 use Rattle.places.proofs.Looping.{segments_turn, segments_end}
 use Rattle.places.proofs.look.pass_segments.Goals as goal

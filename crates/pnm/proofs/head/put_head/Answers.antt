@@ -1,6 +1,6 @@
-use Rattle.std.proofs.Common.{◌≡◌, List, [], ◌∷◌, length, sym, ap, ◌∙◌, arith}
+use Rattle.std.proofs.Common.{◌≡◌, [], ◌∷◌, length, sym, ap, ◌∙◌, arith}
 use Rattle.std.proofs.lemmas.Bool.{cond-true, cond-false}
-use Rattle.pnm.specs.Netpbm.{depth, bilevel, largest, numeral}
+use Rattle.pnm.specs.Netpbm.{depth, bilevel, numeral}
 use Rattle.octets.proofs.Puts.{put_then, put_none, put_as}
 use Rattle.pnm.proofs.Heads.{length_head}
 use Rattle.pnm.proofs.head.put_head.Goals as goal

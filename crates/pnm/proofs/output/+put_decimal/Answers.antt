@@ -1,8 +1,6 @@
-use Rattle.std.proofs.Common.{ℕ, ◌+◌, ◌/◌, ◌%◌, ◌^◌, ◌<◌, ◌≤◌, List, length, decimal, sym, subst, arith, rules}
+use Rattle.std.proofs.Common.{◌^◌, ◌<◌, sym, arith, rules}
 use Rattle.std.proofs.lemmas.Fmt.{decimal_digit, decimal_step, decimal_nonempty}
-use Rattle.std.proofs.lemmas.List.{length_push}
 use Rattle.std.proofs.lemmas.Bool.{ltb-true, ltb-false}
-use Rattle.octets.specs.Writes.{Put}
 use Rattle.octets.proofs.Puts.{put_then}
 use Rattle.pnm.proofs.Decimals.{length_decimal_step}
 use Rattle.pnm.proofs.output.+put_decimal.Goals as goal

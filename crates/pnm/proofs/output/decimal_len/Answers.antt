@@ -1,4 +1,4 @@
-use Rattle.std.proofs.Common.{◌≡◌, ℕ, ◌^◌, ◌<◌, ◌≤◌, length, ap, arith, rules}
+use Rattle.std.proofs.Common.{◌^◌, ◌<◌, length, ap, arith, rules}
 use Rattle.std.proofs.lemmas.Fmt.{decimal_digit, length-decimal-le}
 use Rattle.pnm.proofs.Decimals.{length_decimal_step}
 use Rattle.pnm.proofs.output.decimal_len.Goals as goal

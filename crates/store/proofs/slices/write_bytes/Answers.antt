@@ -1,6 +1,5 @@
-use Rattle.std.proofs.Common.{◌+◌, ◌<◌, ◌≤◌, length, sym, refl, ◌∙◌, arith, rules}
+use Rattle.std.proofs.Common.{sym, refl, ◌∙◌, arith}
 use Rattle.std.proofs.lemmas.Bool.{leb-true, leb-false}
-use Rattle.store.specs.Lent.{counted}
 use Rattle.octets.proofs.Patches.{overwritten}
 use Rattle.store.proofs.Lent.{length_counted}
 use Rattle.store.proofs.slices.write_bytes.Goals as goal

@@ -1,4 +1,4 @@
-use Rattle.std.proofs.Common.{◌≡◌, ◌^◌, ◌<◌, ◌≤◌, length, sym, refl, arith}
+use Rattle.std.proofs.Common.{◌^◌, ◌<◌, ◌≤◌, length, sym, refl, arith}
 use Rattle.reads.proofs.Gains.{no_gain}
 use Rattle.stored.proofs.Pixel.{pixel_past}
 use Rattle.stored.proofs.samples.read_pixel.Goals as goal

@@ -1,6 +1,5 @@
 use Rattle.std.proofs.Common.{◌≡◌, ℕ, suc, ◌-◌, ◌*◌, ◌/◌, ◌%◌, ◌^◌, ◌<◌, sym, ap, ◌∙◌, ap₂, arith}
 use Rattle.std.proofs.lemmas.Nat.{one_shl}
-use Rattle.octets.specs.Digits.{digit}
 use Rattle.octets.specs.Rows.{Bits, per_byte}
 use Rattle.octets.proofs.Digits.{digit_shift}
 use Rattle.octets.proofs.Rows.{by_bits}

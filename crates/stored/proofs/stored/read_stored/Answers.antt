@@ -1,8 +1,8 @@
-use Rattle.std.proofs.Common.{◌≡◌, ℕ, ◌+◌, ◌/◌, ◌%◌, List, sym, refl, ap, ◌∙◌, ap₂, arith}
+use Rattle.std.proofs.Common.{◌≡◌, ℕ, ◌+◌, ◌%◌, List, ap, ◌∙◌, ap₂}
 use Rattle.octets.specs.Rows.{per_byte}
 use Rattle.pages.specs.Segments.{offset_of}
 use Rattle.reads.proofs.Gains.{no_gain_then}
-use Rattle.stored.specs.Pixels.{segment_of, first_sample, stored_pixel}
+use Rattle.stored.specs.Pixels.{segment_of, first_sample}
 use Rattle.stored.specs.Reading.{start_of, pixel_from}
 use Rattle.stored.proofs.Pixel.{pixel_from_lem}
 use Rattle.stored.proofs.stored.read_stored.Goals as goal

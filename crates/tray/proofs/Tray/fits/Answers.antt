@@ -1,4 +1,4 @@
-use Rattle.std.proofs.Common.{◌+◌, ◌%◌, true, false, ◌&&◌, eqb, leb, length, sym, ap, ◌∙◌}
+use Rattle.std.proofs.Common.{◌+◌, leb, ap, ◌∙◌}
 use Rattle.std.proofs.lemmas.Bool.{eq-eqb, ne_eqb}
 use Rattle.tray.specs.Parts.{fits}
 use Rattle.tray.proofs.Tray.fits.Goals as goal

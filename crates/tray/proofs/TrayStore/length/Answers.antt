@@ -1,4 +1,4 @@
-use Rattle.std.proofs.Common.{length, sym, ap, ◌∙◌}
+use Rattle.std.proofs.Common.{length, sym, ap}
 use Rattle.tray.specs.PartLaws.{length_cut, cut_none}
 use Rattle.tray.proofs.TrayStore.length.Goals as goal
 

@@ -1,6 +1,6 @@
-use Rattle.std.proofs.Common.{◌≡◌, ℕ, ◌+◌, ◌<◌, ◌≤◌, true, List, length, sym, refl, ap, ◌∙◌, arith}
-use Rattle.std.proofs.lemmas.Bool.{leb-true, leb-false, eqb-true, eqb-false}
-use Rattle.tray.specs.Parts.{cut, fits}
+use Rattle.std.proofs.Common.{ℕ, ◌+◌, ◌≤◌, List, length, sym, refl, ap, ◌∙◌, arith}
+use Rattle.std.proofs.lemmas.Bool.{leb-true, eqb-true, eqb-false}
+use Rattle.tray.specs.Parts.{cut}
 use Rattle.tray.specs.PartLaws.{fits_end, length_cut}
 use Rattle.tray.proofs.Parts.{cut_fits, part_answered, part_filled, part_nogain}
 use Rattle.store.proofs.Changes.{none_filled, same_lists}

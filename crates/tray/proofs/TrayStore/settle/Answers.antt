@@ -1,4 +1,4 @@
-use Rattle.std.proofs.Common.{ℕ, List, length, sym, ap, ◌∙◌}
+use Rattle.std.proofs.Common.{ℕ, List, length, ap}
 use Rattle.tray.specs.Parts.{cut}
 use Rattle.tray.proofs.Parts.{part_alone, part_nogain}
 use Rattle.tray.proofs.TrayStore.settle.Goals as goal

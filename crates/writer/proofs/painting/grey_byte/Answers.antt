@@ -1,12 +1,12 @@
-use Rattle.std.proofs.Common.{◌≡◌, ℕ, suc, ◌+◌, ◌-◌, ◌*◌, ◌/◌, ◌%◌, ◌^◌, ◌<◌, ◌≤◌, sym, refl, ap, ◌∙◌, subst, ap₂, div-mul-le_self, add-one, arith}
+use Rattle.std.proofs.Common.{◌≡◌, ℕ, ◌+◌, ◌*◌, ◌^◌, ◌<◌, sym, refl, ap, ◌∙◌, ap₂, div-mul-le_self, add-one, arith}
 use Rattle.octets.specs.Digits.{packed}
-use Rattle.octets.specs.Rows.{Bits, per_byte}
+use Rattle.octets.specs.Rows.{per_byte}
 use Rattle.raster.specs.Picture.{Picture}
 use Rattle.stored.specs.Sane.{allowed_bits}
 use Rattle.plans.specs.declared.outline.Outline.{Outline}
 use Rattle.plans.specs.Views.{viewed}
 use Rattle.writer.specs.declared.spots.Spot.{Spot}
-use Rattle.writer.specs.Spots.{padded_at, byte_at}
+use Rattle.writer.specs.Spots.{padded_at}
 use Rattle.writer.proofs.Samples.{levels_shifted, padded_small, next_below, byte_small}
 use Rattle.writer.proofs.painting.grey_byte.Goals as goal
 

@@ -1,6 +1,5 @@
-use Rattle.std.proofs.Common.{◌≡◌, ℕ, ◌+◌, ◌-◌, ◌*◌, ◌/◌, ◌%◌, ◌<◌, ◌≤◌, sym, refl, ap, ◌∙◌, subst, mod-lt, arith}
+use Rattle.std.proofs.Common.{◌/◌, ◌%◌, sym, ap, ◌∙◌, subst, mod-lt, arith}
 use Rattle.octets.specs.Digits.{digit}
-use Rattle.pages.specs.Geometry.{row_bytes}
 use Rattle.plans.specs.Views.{viewed}
 use Rattle.plans.proofs.Outlines.{row_positive}
 use Rattle.writer.specs.declared.spots.Spot.{Spot}

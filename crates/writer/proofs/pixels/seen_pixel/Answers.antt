@@ -1,4 +1,4 @@
-use Rattle.std.proofs.Common.{◌≡◌, ◌<◌, ltb, sym, ◌∙◌, ap₂, arith}
+use Rattle.std.proofs.Common.{◌<◌, ltb, sym, ◌∙◌, ap₂, arith}
 use Rattle.std.proofs.lemmas.Bool.{and_parts, ltb-true}
 use Rattle.faults.specs.declared.fault.Check.TheVariants.{Outside}
 use Rattle.faults.specs.Faults.{bare}

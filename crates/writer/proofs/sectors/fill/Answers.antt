@@ -1,8 +1,8 @@
-use Rattle.std.proofs.Common.{◌≡◌, ℕ, ◌+◌, ◌-◌, ◌*◌, ◌/◌, ◌^◌, ◌<◌, ◌≤◌, List, [], ◌∷◌, sym, refl, ap, ◌∙◌, subst, arith}
+use Rattle.std.proofs.Common.{◌≡◌, ℕ, ◌+◌, ◌-◌, ◌<◌, [], ◌∷◌, sym, refl, ap, ◌∙◌, subst, arith}
 use Rattle.std.proofs.lemmas.List.FromFn.{map-range_with_len_more}
 use Rattle.octets.proofs.Puts.{put_none, put_one, put_then, put_as, put_length}
 use Rattle.raster.specs.Picture.{Picture}
-use Rattle.plans.specs.Outlines.{head_size, block_size}
+use Rattle.plans.specs.Outlines.{head_size}
 use Rattle.plans.specs.Views.{viewed}
 use Rattle.plans.specs.Blocks.{block_byte}
 use Rattle.plans.proofs.Outlines.{block_bounded}

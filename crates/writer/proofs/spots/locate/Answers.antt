@@ -1,6 +1,4 @@
-use Rattle.std.proofs.Common.{◌≡◌, ℕ, ◌+◌, ◌/◌, ◌%◌, ◌<◌, ◌≤◌, sym, refl, ap, ◌∙◌, subst, mod-lt, div-le_self, arith}
-use Rattle.pages.specs.Geometry.{first_row}
-use Rattle.plans.specs.Outlines.{segment_size}
+use Rattle.std.proofs.Common.{◌/◌, ◌%◌, ◌<◌, sym, subst, mod-lt, div-le_self, arith}
 use Rattle.plans.proofs.Outlines.{segment_positive, segment_bounded}
 use Rattle.writer.proofs.Located.{first_row_few}
 use Rattle.writer.proofs.spots.locate.Goals as goal

@@ -1,8 +1,8 @@
-use Rattle.std.proofs.Common.{◌≡◌, ℕ, ◌+◌, ◌-◌, ◌*◌, ◌/◌, ◌%◌, ◌<◌, ◌≤◌, List, [], length, get_or, Some, None, Option, sym, refl, ap, ◌∙◌, inl, inr, ⊎_elim, arith}
+use Rattle.std.proofs.Common.{◌≡◌, ℕ, ◌+◌, ◌-◌, ◌/◌, ◌%◌, ◌<◌, [], length, get_or, None, Option, sym, refl, ap, ◌∙◌, ⊎_elim, arith}
 use Rattle.std.proofs.lemmas.List.{get_or_default}
 use Rattle.std.proofs.lemmas.Bool.{cases_eq}
 use Rattle.hold.specs.declared.slots.Slot.{Slot}
-use Rattle.hold.specs.Kept.{over, tagged}
+use Rattle.hold.specs.Kept.{tagged}
 use Rattle.hold.proofs.Kept.{over_kept, over_free, kept_is, kept_tag, kept_not, slot_is}
 use Rattle.hold.proofs.slots.Table.overlay_slot.Goals as goal
 

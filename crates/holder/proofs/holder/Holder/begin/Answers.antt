@@ -1,4 +1,4 @@
-use Rattle.std.proofs.Common.{◌≡◌, ℕ, true, false, eqb, is_some, Some, None, Ok, Err, Option, sym, refl, ap, ◌∙◌, subst, eq-eqb}
+use Rattle.std.proofs.Common.{◌≡◌, true, false, eqb, Some, None, Ok, Err, sym, refl, ap, ◌∙◌, subst, eq-eqb}
 use Rattle.std.proofs.lemmas.Result.{err_from_is_err_and}
 use Rattle.std.proofs.lemmas.Bool.{ne_eqb}
 use Rattle.faults.specs.Faults.{then}
@@ -7,7 +7,7 @@ use Rattle.drafts.specs.declared.call.Call.TheVariants.{Begin}
 use Rattle.drafts.specs.declared.call.Reply.TheVariants.{Number}
 use Rattle.drafts.specs.declared.state.Draft.{Draft}
 use Rattle.drafts.specs.Mem.{Mem, mem_of}
-use Rattle.drafts.specs.Steps.{Step, Held, world, held, sized_for, spaced, sectors, draft_at, place_by}
+use Rattle.drafts.specs.Steps.{Step, Held, world, held, sized_for, spaced, draft_at, place_by}
 use Rattle.holder.specs.Worlds.{held_by, layout_in}
 use Rattle.holder.specs.Told.{told_begin, LiveBegin}
 use Rattle.holder.proofs.Calls.{still}

@@ -1,4 +1,4 @@
-use Rattle.std.proofs.Common.{◌≡◌, ℕ, ◌+◌, ◌-◌, ◌*◌, ◌^◌, ◌<◌, ◌≤◌, List, length, Some, Ok, Err, sym, refl, ap, ◌∙◌, subst, arith}
+use Rattle.std.proofs.Common.{◌≡◌, ℕ, ◌+◌, ◌-◌, ◌*◌, ◌^◌, ◌<◌, ◌≤◌, List, Some, Ok, sym, refl, ap, ◌∙◌, subst, arith}
 use Rattle.octets.specs.Sectors.{sector}
 use Rattle.stored.specs.Pixels.{picture_of}
 use Rattle.writer.specs.Drafts.{draft_sector}

@@ -1,4 +1,4 @@
-use Rattle.std.proofs.Common.{◌≡◌, sym, refl, ap, ◌∙◌}
+use Rattle.std.proofs.Common.{◌≡◌, ap, ◌∙◌}
 use Rattle.std.specs.Result.{result_ok}
 use Rattle.pages.specs.Opening.{opened}
 use Rattle.drafts.specs.Mem.{Mem, mem_of, Settled}

@@ -1,4 +1,4 @@
-use Rattle.std.proofs.Common.{◌≡◌, ℕ, Some, Ok, Err, sym, refl, ap, ◌∙◌, subst}
+use Rattle.std.proofs.Common.{◌≡◌, Some, Ok, Err, sym, ap, ◌∙◌, subst}
 use Rattle.std.proofs.lemmas.Result.{err_from_is_err_and}
 use Rattle.pages.specs.Opening.{opened}
 use Rattle.drafts.specs.declared.call.Call.TheVariants.{Open}
@@ -6,7 +6,7 @@ use Rattle.drafts.specs.Mem.{Mem, mem_of, Settled}
 use Rattle.drafts.specs.Steps.{Step, held, world, sized}
 use Rattle.drafts.proofs.Stepping.{settled_quiet}
 use Rattle.stored.specs.Pixels.{picture_of}
-use Rattle.holder.specs.Worlds.{held_by, worldOf, picture_by, told_open}
+use Rattle.holder.specs.Worlds.{held_by, picture_by, told_open}
 use Rattle.holder.proofs.Calls.{lawful}
 use Rattle.holder.proofs.Opens.{opened_ok, opened_err, open_ok, open_err}
 use Rattle.holder.proofs.holder.Holder.open.Goals as goal

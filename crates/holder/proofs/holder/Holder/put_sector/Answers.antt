@@ -1,5 +1,4 @@
-use Rattle.std.proofs.Common.{◌≡◌, ℕ, ◌+◌, ◌*◌, ◌≤◌, List, length, take, sym, ap, ◌∙◌, subst, arith}
-use Rattle.octets.specs.Sectors.{patched}
+use Rattle.std.proofs.Common.{◌≡◌, ℕ, ◌+◌, ◌*◌, ◌≤◌, List, length, take, ◌∙◌, subst, arith}
 use Rattle.writer.specs.Drafts.{draft_sector}
 use Rattle.drafts.specs.Mem.{Mem, mem_of}
 use Rattle.holder.specs.Worlds.{picture_by}

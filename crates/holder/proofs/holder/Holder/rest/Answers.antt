@@ -1,4 +1,3 @@
-use Rattle.drafts.specs.Mem.{Settled}
 use Rattle.holder.specs.Worlds.{held_by}
 use Rattle.holder.proofs.Calls.{lawful, rest_ok}
 use Rattle.holder.proofs.holder.Holder.rest.Goals as goal

@@ -1,7 +1,5 @@
-use Rattle.std.proofs.Common.{◌≡◌, ℕ, ◌+◌, ◌≤◌, length, sym, ap, ◌∙◌, subst, arith}
+use Rattle.std.proofs.Common.{◌+◌, ◌≤◌, length, arith}
 use Rattle.plans.specs.Blocks.{header}
-use Rattle.drafts.specs.declared.call.Call.TheVariants.{Switch}
-use Rattle.drafts.specs.Mem.{mem_of}
 use Rattle.holder.specs.Worlds.{held_by}
 use Rattle.holder.proofs.Calls.{steady_draft, length_header, wrote_of, switch_ok}
 use Rattle.holder.proofs.holder.Holder.switch.Goals as goal

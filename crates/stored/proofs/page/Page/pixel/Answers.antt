@@ -1,5 +1,5 @@
-use Rattle.std.proofs.Common.{ℕ, ◌<◌, cond, sym, subst, ap₂, arith}
-use Rattle.raster.specs.Views.{swaps, column_below, row_below}
+use Rattle.std.proofs.Common.{ℕ, ◌<◌, cond, arith}
+use Rattle.raster.specs.Views.{swaps}
 use Rattle.stored.specs.Sane.{sane_parts}
 use Rattle.stored.proofs.Turned.{column_within, row_within}
 use Rattle.stored.proofs.page.Page.pixel.Goals as goal
