@@ -4,7 +4,7 @@ use Rattle.std.proofs.lemmas.List.{ext_get_or, length-take-le, get_or-drop, leng
 use Rattle.std.proofs.lemmas.Bool.{cases_Bool, cases_lt, cases_eq, eq-eqb, ne_eqb, eqb-true, false≢true, both_ways, cond-true, cond-false}
 use Rattle.hold.specs.declared.slots.Slot.{Slot}
 use Rattle.octets.specs.Sectors.{sector, patched, laid, In, Lists, Touched}
-use Rattle.std.specs.List.{AllByRecursion as All}
+use Rattle.std.specs.List.{AllByRecursion}
 use Rattle.store.specs.Rules.{NoGain, Gain, Alone, Grown}
 use Rattle.hold.specs.Kept.{tagged, kept, slot_of, OneInEight, over, byte, overlaid, with_kept, Quiet, Put}
 use Rattle.hold.specs.KeptLaws.{length_overlaid, get_or_overlaid, byte_kept, byte_below, sector_below, with_seen, with_cases, with_below, with_free}
@@ -95,12 +95,12 @@ flush_same slots i t f below tag h at b g free n =
 
 -- tables that keep nothing
 
-pub tag_none : (slots : List Slot) → All (λ t. t.tag ≡ None) slots → (k : ℕ) → (get_or slots k (record { tag = None; bytes = [] })).tag ≡ None
+pub tag_none : (slots : List Slot) → AllByRecursion (λ t. t.tag ≡ None) slots → (k : ℕ) → (get_or slots k (record { tag = None; bytes = [] })).tag ≡ None
 tag_none [] h k = refl
 tag_none (t ∷ ts) h zero = h.0
 tag_none (t ∷ ts) h (suc k) = tag_none ts h.1 k
 
-pub kept_none : (slots : List Slot) → All (λ t. t.tag ≡ None) slots → (s : ℕ) → kept slots s ≡ false
+pub kept_none : (slots : List Slot) → AllByRecursion (λ t. t.tag ≡ None) slots → (s : ℕ) → kept slots s ≡ false
 unfolding kept slot_of
 kept_none slots h s = ap (λ (o : Option ℕ). tagged o s) (tag_none slots h (s % 8))
 

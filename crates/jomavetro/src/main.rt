@@ -2,8 +2,12 @@
 #![tactic(auto)]
 
 use cli::commands::run;
-use cli::failed::Failed;
+use std::process::ExitCode;
 
-fn main(rt: HostRuntime) -> Result<(), Failed> {
-    run(&rt)
+// What went wrong was printed where it was met, so nothing is added here but the status.
+fn main(rt: HostRuntime) -> ExitCode {
+    match run(&rt) {
+        Ok(()) => ExitCode::SUCCESS,
+        Err(_) => ExitCode::FAILURE,
+    }
 }

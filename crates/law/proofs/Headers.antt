@@ -1,6 +1,6 @@
 -- The picture of an accepted page does not depend on the header.
 use Rattle.std.proofs.Common.{◌≡◌, ℕ, ◌+◌, ◌-◌, ◌*◌, ◌%◌, ◌<◌, ◌≤◌, true, List, [], ◌∷◌, length, get_or, is_some, Some, None, Ok, Option, sym, refl, ap, ◌∙◌, subst, ⊎_elim, true≢false, arith}
-use Rattle.std.specs.List.{AllByRecursion as All}
+use Rattle.std.specs.List.{AllByRecursion}
 use Rattle.std.proofs.lemmas.Bool.{cases_lt, cond_both}
 use Rattle.std.proofs.lemmas.List.{get_or-take}
 use Rattle.octets.specs.declared.endian.Endian.{Endian}
@@ -77,8 +77,8 @@ module _ (bs cs : List ℕ) (page : ℕ) (l : Layout) (accepted : opened bs page
       entry_shares o bs cs len found.place end e (agree_past found.place (end - found.place) stands_past) w
       (λ _. agree_past e.values (size e) (values_past e w r s)) r s
 
-  all_shared : (tag : ℕ) → is_some (shape_of tag) ≡ true → (xs : List Entry) → All (Within found.place (found.place + (6 + 12 * found.entries))) xs → All (EntryRules (length bs)) xs
-      → All (λ e. e.tag ≡ tag → Same o bs cs (numbers_of e)) xs
+  all_shared : (tag : ℕ) → is_some (shape_of tag) ≡ true → (xs : List Entry) → AllByRecursion (Within found.place (found.place + (6 + 12 * found.entries))) xs → AllByRecursion (EntryRules (length bs)) xs
+      → AllByRecursion (λ e. e.tag ≡ tag → Same o bs cs (numbers_of e)) xs
   all_shared tag h [] w r = tt
   all_shared tag h (e ∷ xs) w r = ((λ q. shared e w.0 r.0 (ap (λ t. is_some (shape_of t)) q ∙ h)), all_shared tag h xs w.1 r.1)
 

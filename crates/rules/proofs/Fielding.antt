@@ -1,6 +1,6 @@
 -- The checks of entries accept just what the rules allow.
 use Rattle.std.proofs.Common.{◌≡◌, ℕ, ◌+◌, ◌%◌, ◌<◌, ◌≤◌, false, not, ◌&&◌, ◌||◌, eqb, ltb, ◌⊎◌, List, [], ◌∷◌, length, Some, None, Ok, Decides, Option, Result, sym, refl, ap, ◌∙◌, subst, inl, inr, arith}
-use Rattle.std.specs.List.{AllByRecursion as All}
+use Rattle.std.specs.List.{AllByRecursion}
 use Rattle.std.proofs.lemmas.Bool.{or_parts, and_left, lt-ltb, le-ltb, ltb-false, eqb-false, ne_eqb, or_from, not-false, cases_lt}
 use Rattle.std.proofs.lemmas.Bool.Decides.{Decides-and, Decides-or, Decides-eqb, Decides-ltb}
 use Rattle.faults.specs.declared.fault.Check.TheVariants.{Order, Field, Value}
@@ -88,7 +88,7 @@ accepted_ok n page least e h r = by (shape_of e.tag) refl
         accepted-listed n page least e s h k ((decides_typed s e.kind e.count).1 f.typed) (stored_astray n e f.stored)
 
 -- all entries
-pub scanned_was : (n page least : ℕ) (es : List Entry) → scanned n page least es ≡ Ok tt → Ascending least es × All (EntryRules n) es
+pub scanned_was : (n page least : ℕ) (es : List Entry) → scanned n page least es ≡ Ok tt → Ascending least es × AllByRecursion (EntryRules n) es
 scanned_was n page least [] q = (tt, tt)
 scanned_was n page least (e ∷ es) q =
     let t = then_was (accepted n page least e) (λ next. scanned n page next es) tt q in
@@ -96,7 +96,7 @@ scanned_was n page least (e ∷ es) q =
     let r = scanned_was n page t.0 es t.2 in
     ((a.0, subst (λ x. Ascending x es) a.2 r.0), (a.1, r.1))
 
-pub scanned_ok : (n page least : ℕ) (es : List Entry) → Ascending least es → All (EntryRules n) es → scanned n page least es ≡ Ok tt
+pub scanned_ok : (n page least : ℕ) (es : List Entry) → Ascending least es → AllByRecursion (EntryRules n) es → scanned n page least es ≡ Ok tt
 scanned_ok n page least [] a r = refl
 scanned_ok n page least (e ∷ es) a r =
     then_ok (accepted n page least e) (λ next. scanned n page next es) (e.tag + 1) (accepted_ok n page least e a.0 r.0)

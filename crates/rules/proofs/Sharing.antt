@@ -1,6 +1,6 @@
 -- Values in bytes that agree on a page's extents are equal.
 use Rattle.std.proofs.Common.{◌≡◌, ℕ, zero, suc, ◌+◌, ◌-◌, ◌*◌, ◌<◌, ◌≤◌, Bool, true, false, cond, eqb, ltb, leb, ◌⊎◌, List, [], ◌∷◌, length, is_some, Some, None, Option, sym, refl, ◌∙◌, subst, inl, inr, arith}
-use Rattle.std.specs.List.{AllByRecursion as All}
+use Rattle.std.specs.List.{AllByRecursion}
 use Rattle.std.proofs.lemmas.Bool.{cases_lt, cond_both, cond-true, le-leb, lt-ltb, ltb-true, eqb-true, and_from, true≢false}
 use Rattle.octets.specs.Numbers.{short, long}
 use Rattle.octets.specs.declared.endian.Endian.{Endian}
@@ -47,7 +47,7 @@ entry_within o bs at place end h k = record {
   home = λ s. cond-true (leb (size_of (short o bs (at + 2)) (long o bs (at + 4))) 4) (at + 8) (long o bs (at + 8)) (le-leb (size_of (short o bs (at + 2)) (long o bs (at + 4))) 4 s);
 }
 
-pub entries_within : (o : Endian) (bs : List ℕ) (k at place end : ℕ) → place ≤ at → at + 12 * k ≤ end → All (Within place end) (entries_from k o bs at)
+pub entries_within : (o : Endian) (bs : List ℕ) (k at place end : ℕ) → place ≤ at → at + 12 * k ≤ end → AllByRecursion (Within place end) (entries_from k o bs at)
 entries_within o bs zero at place end h l = tt
 entries_within o bs (suc k) at place end h l = (entry_within o bs at place end h (omega arith), entries_within o bs k (at + 12) place end (omega arith) (omega arith))
 
@@ -64,7 +64,7 @@ kept_by : (bs cs : List ℕ) (n : ℕ) (e : Entry) (es : List Entry) (b : Bool) 
 kept_by bs cs n e es true w a = ((λ _. kept_here bs cs (span e.values (size e)) (value_spans n es) a), (λ i h. a i (inr h)))
 kept_by bs cs n e es false w a = ((λ h. absurd (true≢false (sym h ∙ w))), a)
 
-pub all_kept : (bs cs : List ℕ) (n : ℕ) (es : List Entry) → AgreeOn (value_spans n es) bs cs → All (Kept bs cs n) es
+pub all_kept : (bs cs : List ℕ) (n : ℕ) (es : List Entry) → AgreeOn (value_spans n es) bs cs → AllByRecursion (Kept bs cs n) es
 unfolding value_spans
 all_kept bs cs n [] a = tt
 all_kept bs cs n (e ∷ es) a =
@@ -119,7 +119,7 @@ abbrev pub On : (Numbers → Type 0) → Option Numbers → Type 0
 On P None = Unit {0}
 On P (Some v) = P v
 
-pub sought_on : (P : Numbers → Type 0) (tag : ℕ) (es : List Entry) (before : Option Numbers) → On P before → All (λ e. e.tag ≡ tag → P (numbers_of e)) es → On P (sought_from before tag es)
+pub sought_on : (P : Numbers → Type 0) (tag : ℕ) (es : List Entry) (before : Option Numbers) → On P before → AllByRecursion (λ e. e.tag ≡ tag → P (numbers_of e)) es → On P (sought_from before tag es)
 sought_on P tag [] before b h = b
 sought_on P tag (e ∷ es) before b h =
     sought_on P tag es (chosen e.tag tag (numbers_of e) before)

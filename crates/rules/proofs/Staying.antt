@@ -1,6 +1,6 @@
 -- A page stays what it is in bytes that agree with its file on the extents.
 use Rattle.std.proofs.Common.{◌≡◌, ℕ, zero, suc, ◌+◌, ◌-◌, ◌*◌, ◌<◌, ◌≤◌, true, List, [], ◌∷◌, ◌++◌, map, length, is_some, Some, None, Ok, sym, refl, ap, ◌∙◌, subst, inl, inr, arith}
-use Rattle.std.specs.List.{range_with_len, AllByRecursion as All}
+use Rattle.std.specs.List.{range_with_len, AllByRecursion}
 use Rattle.std.proofs.lemmas.Bool.{cond_both}
 use Rattle.faults.specs.Faults.{then}
 use Rattle.octets.specs.declared.endian.Endian.{Endian}
@@ -38,7 +38,7 @@ map_below f g a (suc n) h =
     λ i. x i ∷ y i
 
 -- each of three facts of all entries
-all_with : (P Q R S : Entry → Type 0) → ((e : Entry) → P e → Q e → R e → S e) → (es : List Entry) → All P es → All Q es → All R es → All S es
+all_with : (P Q R S : Entry → Type 0) → ((e : Entry) → P e → Q e → R e → S e) → (es : List Entry) → AllByRecursion P es → AllByRecursion Q es → AllByRecursion R es → AllByRecursion S es
 all_with P Q R S f [] p q r = tt
 all_with P Q R S f (e ∷ es) p q r = (f e p.0 q.0 r.0, all_with P Q R S f es p.1 q.1 r.1)
 
@@ -67,7 +67,7 @@ module _ (bs cs : List ℕ) (l : Layout) (p : Paged bs l.directories l.directory
   same_entries = entries_same o bs cs d.entries (d.place + 2) (agree_in bs cs d.place (6 + 12 * d.entries) (d.place + 2) (12 * d.entries) (omega arith) (omega arith) directory_same)
 
   -- the values of each listed entry
-  shared : All (λ e. is_some (shape_of e.tag) ≡ true → Same o bs cs (numbers_of e)) es
+  shared : AllByRecursion (λ e. is_some (shape_of e.tag) ≡ true → Same o bs cs (numbers_of e)) es
   shared =
       let end = d.place + (6 + 12 * d.entries) in
       let a : Agree bs cs d.place (end - d.place) = agree_in bs cs d.place (6 + 12 * d.entries) d.place (end - d.place) (omega arith) (omega arith) directory_same in
@@ -77,7 +77,7 @@ module _ (bs cs : List ℕ) (l : Layout) (p : Paged bs l.directories l.directory
       (all_kept bs cs (length bs) es values_kept)
       (scanned_was (length bs) d.page 0 es p.scanned_all).1
 
-  by_tag : (tag : ℕ) → is_some (shape_of tag) ≡ true → (xs : List Entry) → All (λ e. is_some (shape_of e.tag) ≡ true → Same o bs cs (numbers_of e)) xs → All (λ e. e.tag ≡ tag → Same o bs cs (numbers_of e)) xs
+  by_tag : (tag : ℕ) → is_some (shape_of tag) ≡ true → (xs : List Entry) → AllByRecursion (λ e. is_some (shape_of e.tag) ≡ true → Same o bs cs (numbers_of e)) xs → AllByRecursion (λ e. e.tag ≡ tag → Same o bs cs (numbers_of e)) xs
   by_tag tag h [] a = tt
   by_tag tag h (e ∷ xs) a = ((λ q. a.0 (ap (λ t. is_some (shape_of t)) q ∙ h)), by_tag tag h xs a.1)
 

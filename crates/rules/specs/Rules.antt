@@ -1,6 +1,6 @@
 -- What a page of a file must be, in the words of the format and whatever the order of the checks. Assumes nothing.
 use Rattle.std.specs.Prelude.{◌≡◌, ℕ, ◌+◌, ◌%◌, ◌<◌, ◌≤◌, min, Bool, true, false, cond, ◌⊎◌, List, [], ◌∷◌, length, is_some, Some, Ok, Option, slice_index}
-use Rattle.std.specs.List.{AllByRecursion as All}
+use Rattle.std.specs.List.{AllByRecursion}
 use Rattle.octets.specs.Rows.{Bits}
 use Rattle.octets.specs.declared.endian.Endian.{Endian}
 use Rattle.raster.specs.Picture.{kind_of}
@@ -154,7 +154,7 @@ layout_in bs directories d offsets counts =
 pub record PageRules (bs : List ℕ) (directories : ℕ) (d : Directory) : Type 0 where
   -- entries in ascending order, those of listed tags with the right type and count and with values within the file
   pub ascending : Ascending 0 (entries_of bs d)
-  pub fields : All (EntryRules (length bs)) (entries_of bs d)
+  pub fields : AllByRecursion (EntryRules (length bs)) (entries_of bs d)
   -- the needed tags are there
   pub offsets : Numbers
   pub counts : Numbers
