@@ -39,7 +39,7 @@ pub byte_chain : (f : ℕ → List ℕ) (c n j : ℕ) → 0 < c → 0 < n → ((
     → (j / c < n) × (j % c < length (f (j / c))) × (byte (chain n f) j ≡ byte (f (j / c)) (j % c))
 byte_chain f c n j z some e short l =
     let len : length (chain n f) ≡ (n - 1) * c + length (f (n - 1)) = length_chain_last f c n some e in
-    let all : (n - 1) * c + c ≡ n * c = sym (suc-mul (n - 1) c) ∙ ap (λ m. m * c) (pred-suc n some) in
+    let all : (n - 1) * c + c ≡ n * c = sym (suc-mul (n - 1) c) ∙ ap (λ m. m * c) (pred_suc n some) in
     let k : j / c < n = (div-lt_iff_lt-mul z).1 (omega arith) in
     let whole : j / c * c + j % c ≡ j = div-add-mod' j c in
     let r : j % c < c = mod-lt j z in
@@ -48,8 +48,8 @@ byte_chain f c n j z some e short l =
     let place : 0 + j / c * c + j % c ≡ j = omega arith in
     (k, within, ap (byte (chain n f)) (sym place) ∙ (holds_chain (chain n f) f c 0 n (j / c) e k (holds_self (chain n f))).same (j % c) within)
   where
-    pred-suc : (n : ℕ) → 0 < n → suc (n - 1) ≡ n
-    pred-suc n l = omega arith
+    pred_suc : (n : ℕ) → 0 < n → suc (n - 1) ≡ n
+    pred_suc n l = omega arith
 
     inside : (q r : ℕ) → q < n → n ≤ suc q → length (chain n f) ≡ (n - 1) * c + length (f (n - 1)) → q * c + r ≡ j → r < length (f q)
     inside q r a b len whole =

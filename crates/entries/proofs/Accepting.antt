@@ -20,12 +20,12 @@ module _ (n page least : ℕ) (e : Entry) where
   refused_order h = ap (λ b. refused b (fault Order page 0 e.place) (shaped n page e (shape_of e.tag))) (lt-ltb e.tag least h)
 
   module _ (s : Shape) (h : least ≤ e.tag) (k : Some s ≡ shape_of e.tag) where
-    pub refused-field : fits s e.kind e.count ≡ false → accepted n page least e ≡ Err (fault Field page e.tag e.place)
-    refused-field f = accepted_by n page least e (Some s) h k ∙ simp f
+    pub refused_field : fits s e.kind e.count ≡ false → accepted n page least e ≡ Err (fault Field page e.tag e.place)
+    refused_field f = accepted_by n page least e (Some s) h k ∙ simp f
 
     module _ (f : fits s e.kind e.count ≡ true) where
-      pub refused-value : astray n e ≡ true → accepted n page least e ≡ Err (fault Value page e.tag e.place)
-      refused-value a = accepted_by n page least e (Some s) h k ∙ simp (f, a)
+      pub refused_value : astray n e ≡ true → accepted n page least e ≡ Err (fault Value page e.tag e.place)
+      refused_value a = accepted_by n page least e (Some s) h k ∙ simp (f, a)
 
-      pub accepted-listed : astray n e ≡ false → accepted n page least e ≡ Ok (e.tag + 1)
-      accepted-listed a = accepted_by n page least e (Some s) h k ∙ simp (f, a)
+      pub accepted_listed : astray n e ≡ false → accepted n page least e ≡ Ok (e.tag + 1)
+      accepted_listed a = accepted_by n page least e (Some s) h k ∙ simp (f, a)

@@ -131,98 +131,98 @@ module _ (q : Outline) (place : ℕ) where
     a150 : bits_at q ≡ 150
     a150 = ap (λ m. 6 + 12 * m) (cond-false q.cut.tiled 13 12 strips)
 
-    aO : offsets_at q ≡ 150 + size
-    aO = ap (λ m. m + size) (cond-false q.cut.tiled 178 150 strips)
+    a_o : offsets_at q ≡ 150 + size
+    a_o = ap (λ m. m + size) (cond-false q.cut.tiled 178 150 strips)
 
-    aR : ratios_at q ≡ 150 + size + 2 * L
-    aR = cond-false q.cut.tiled (162 + size) (150 + size + 2 * L) strips
+    a_r : ratios_at q ≡ 150 + size + 2 * L
+    a_r = cond-false q.cut.tiled (162 + size) (150 + size + 2 * L) strips
 
     module _ (i : ℕ) where
-      past-B : offsets_at q ≤ i → byte (outer_in false q place) (i - bits_at q) ≡ byte (O 273 ++ (C 279 ++ (R ++ (R ++ [])))) (i - offsets_at q)
-      past-B l = skip B (O 273 ++ (C 279 ++ (R ++ (R ++ [])))) (bits_at q) (offsets_at q) i (omega (arith, a150, aO, length_B)) l
+      past_B : offsets_at q ≤ i → byte (outer_in false q place) (i - bits_at q) ≡ byte (O 273 ++ (C 279 ++ (R ++ (R ++ [])))) (i - offsets_at q)
+      past_B l = skip B (O 273 ++ (C 279 ++ (R ++ (R ++ [])))) (bits_at q) (offsets_at q) i (omega (arith, a150, a_o, length_B)) l
 
-      past-O : counts_at q ≤ i → byte (outer_in false q place) (i - bits_at q) ≡ byte (C 279 ++ (R ++ (R ++ []))) (i - counts_at q)
-      past-O l = past-B (omega arith) ∙ skip (O 273) (C 279 ++ (R ++ (R ++ []))) (offsets_at q) (counts_at q) i (omega (arith, length_O 273)) l
+      past_O : counts_at q ≤ i → byte (outer_in false q place) (i - bits_at q) ≡ byte (C 279 ++ (R ++ (R ++ []))) (i - counts_at q)
+      past_O l = past_B (omega arith) ∙ skip (O 273) (C 279 ++ (R ++ (R ++ []))) (offsets_at q) (counts_at q) i (omega (arith, length_O 273)) l
 
-      past-C : ratios_at q ≤ i → byte (outer_in false q place) (i - bits_at q) ≡ byte (R ++ (R ++ [])) (i - ratios_at q)
-      past-C l = past-O (omega (arith, aO, aR)) ∙ skip (C 279) (R ++ (R ++ [])) (counts_at q) (ratios_at q) i (omega (arith, length_C 279, aO, aR)) l
+      past_C : ratios_at q ≤ i → byte (outer_in false q place) (i - bits_at q) ≡ byte (R ++ (R ++ [])) (i - ratios_at q)
+      past_C l = past_O (omega (arith, a_o, a_r)) ∙ skip (C 279) (R ++ (R ++ [])) (counts_at q) (ratios_at q) i (omega (arith, length_C 279, a_o, a_r)) l
 
-      strip-bits : bits_at q ≤ i → i < bits_at q + size → byte_of o 2 q.kind.bits ((i - bits_at q) % 2) ≡ byte (outer_in false q place) (i - bits_at q)
-      strip-bits l m = sym (stop B (O 273 ++ (C 279 ++ (R ++ (R ++ [])))) (bits_at q) (bits_at q + size) i (omega (arith, length_B)) l m ∙ bits_value q (i - bits_at q) (omega arith))
+      strip_bits : bits_at q ≤ i → i < bits_at q + size → byte_of o 2 q.kind.bits ((i - bits_at q) % 2) ≡ byte (outer_in false q place) (i - bits_at q)
+      strip_bits l m = sym (stop B (O 273 ++ (C 279 ++ (R ++ (R ++ [])))) (bits_at q) (bits_at q + size) i (omega (arith, length_B)) l m ∙ bits_value q (i - bits_at q) (omega arith))
 
-      strip-offset : offsets_at q ≤ i → i < counts_at q → byte_of o 4 (offset_of q place ((i - offsets_at q) / 4)) ((i - offsets_at q) % 4) ≡ byte (outer_in false q place) (i - bits_at q)
-      strip-offset l m =
-          sym (past-B l ∙ stop (O 273) (C 279 ++ (R ++ (R ++ []))) (offsets_at q) (counts_at q) i (omega (arith, length_O 273)) l m
+      strip_offset : offsets_at q ≤ i → i < counts_at q → byte_of o 4 (offset_of q place ((i - offsets_at q) / 4)) ((i - offsets_at q) % 4) ≡ byte (outer_in false q place) (i - bits_at q)
+      strip_offset l m =
+          sym (past_B l ∙ stop (O 273) (C 279 ++ (R ++ (R ++ []))) (offsets_at q) (counts_at q) i (omega (arith, length_O 273)) l m
           ∙ table_value o 273 n offset (i - offsets_at q) (omega arith))
 
       strip_count : counts_at q ≤ i → i < counts_at q + L → byte_of o 4 (segment_size q ((i - counts_at q) / 4)) ((i - counts_at q) % 4) ≡ byte (outer_in false q place) (i - bits_at q)
       strip_count l m =
-          sym (past-O l ∙ stop (C 279) (R ++ (R ++ [])) (counts_at q) (counts_at q + L) i (omega (arith, length_C 279)) l m
+          sym (past_O l ∙ stop (C 279) (R ++ (R ++ [])) (counts_at q) (counts_at q + L) i (omega (arith, length_C 279)) l m
           ∙ table_value o 279 n (segment_size q) (i - counts_at q) (omega arith))
 
-      strip-ratio : ratios_at q ≤ i → i < ratios_at q + 16 → byte_of o 4 1 ((i - ratios_at q) % 4) ≡ byte (outer_in false q place) (i - bits_at q)
-      strip-ratio l m = sym (past-C l ∙ ratios_value o [] (ratios_at q) i l m)
+      strip_ratio : ratios_at q ≤ i → i < ratios_at q + 16 → byte_of o 4 1 ((i - ratios_at q) % 4) ≡ byte (outer_in false q place) (i - bits_at q)
+      strip_ratio l m = sym (past_C l ∙ ratios_value o [] (ratios_at q) i l m)
 
   module _ (tiles : q.cut.tiled ≡ true) where
     b162 : bits_at q ≡ 162
     b162 = ap (λ m. 6 + 12 * m) (cond-true q.cut.tiled 13 12 tiles)
 
-    bO : offsets_at q ≡ 178 + size
-    bO = ap (λ m. m + size) (cond-true q.cut.tiled 178 150 tiles)
+    b_o : offsets_at q ≡ 178 + size
+    b_o = ap (λ m. m + size) (cond-true q.cut.tiled 178 150 tiles)
 
-    bR : ratios_at q ≡ 162 + size
-    bR = cond-true q.cut.tiled (162 + size) (150 + size + 2 * L) tiles
+    b_r : ratios_at q ≡ 162 + size
+    b_r = cond-true q.cut.tiled (162 + size) (150 + size + 2 * L) tiles
 
     module _ (i : ℕ) where
-      beyond-B : ratios_at q ≤ i → byte (outer_in true q place) (i - bits_at q) ≡ byte (R ++ (R ++ (O 324 ++ (C 325 ++ [])))) (i - ratios_at q)
-      beyond-B l = skip B (R ++ (R ++ (O 324 ++ (C 325 ++ [])))) (bits_at q) (ratios_at q) i (omega (arith, b162, bR, length_B)) l
+      beyond_B : ratios_at q ≤ i → byte (outer_in true q place) (i - bits_at q) ≡ byte (R ++ (R ++ (O 324 ++ (C 325 ++ [])))) (i - ratios_at q)
+      beyond_B l = skip B (R ++ (R ++ (O 324 ++ (C 325 ++ [])))) (bits_at q) (ratios_at q) i (omega (arith, b162, b_r, length_B)) l
 
-      beyond-R : offsets_at q ≤ i → byte (outer_in true q place) (i - bits_at q) ≡ byte (O 324 ++ (C 325 ++ [])) (i - offsets_at q)
-      beyond-R l =
-          beyond-B (omega (arith, bR, bO))
-          ∙ skip R (R ++ (O 324 ++ (C 325 ++ []))) (ratios_at q) (ratios_at q + 8) i refl (omega (arith, bR, bO))
-          ∙ skip R (O 324 ++ (C 325 ++ [])) (ratios_at q + 8) (offsets_at q) i (omega (arith, bR, bO)) l
+      beyond_R : offsets_at q ≤ i → byte (outer_in true q place) (i - bits_at q) ≡ byte (O 324 ++ (C 325 ++ [])) (i - offsets_at q)
+      beyond_R l =
+          beyond_B (omega (arith, b_r, b_o))
+          ∙ skip R (R ++ (O 324 ++ (C 325 ++ []))) (ratios_at q) (ratios_at q + 8) i refl (omega (arith, b_r, b_o))
+          ∙ skip R (O 324 ++ (C 325 ++ [])) (ratios_at q + 8) (offsets_at q) i (omega (arith, b_r, b_o)) l
 
-      beyond-O : counts_at q ≤ i → byte (outer_in true q place) (i - bits_at q) ≡ byte (C 325 ++ []) (i - counts_at q)
-      beyond-O l = beyond-R (omega arith) ∙ skip (O 324) (C 325 ++ []) (offsets_at q) (counts_at q) i (omega (arith, length_O 324)) l
+      beyond_O : counts_at q ≤ i → byte (outer_in true q place) (i - bits_at q) ≡ byte (C 325 ++ []) (i - counts_at q)
+      beyond_O l = beyond_R (omega arith) ∙ skip (O 324) (C 325 ++ []) (offsets_at q) (counts_at q) i (omega (arith, length_O 324)) l
 
-      tile-bits : bits_at q ≤ i → i < bits_at q + size → byte_of o 2 q.kind.bits ((i - bits_at q) % 2) ≡ byte (outer_in true q place) (i - bits_at q)
-      tile-bits l m = sym (stop B (R ++ (R ++ (O 324 ++ (C 325 ++ [])))) (bits_at q) (bits_at q + size) i (omega (arith, length_B)) l m ∙ bits_value q (i - bits_at q) (omega arith))
+      tile_bits : bits_at q ≤ i → i < bits_at q + size → byte_of o 2 q.kind.bits ((i - bits_at q) % 2) ≡ byte (outer_in true q place) (i - bits_at q)
+      tile_bits l m = sym (stop B (R ++ (R ++ (O 324 ++ (C 325 ++ [])))) (bits_at q) (bits_at q + size) i (omega (arith, length_B)) l m ∙ bits_value q (i - bits_at q) (omega arith))
 
-      tile-offset : offsets_at q ≤ i → i < counts_at q → byte_of o 4 (offset_of q place ((i - offsets_at q) / 4)) ((i - offsets_at q) % 4) ≡ byte (outer_in true q place) (i - bits_at q)
-      tile-offset l m =
-          sym (beyond-R l ∙ stop (O 324) (C 325 ++ []) (offsets_at q) (counts_at q) i (omega (arith, length_O 324)) l m
+      tile_offset : offsets_at q ≤ i → i < counts_at q → byte_of o 4 (offset_of q place ((i - offsets_at q) / 4)) ((i - offsets_at q) % 4) ≡ byte (outer_in true q place) (i - bits_at q)
+      tile_offset l m =
+          sym (beyond_R l ∙ stop (O 324) (C 325 ++ []) (offsets_at q) (counts_at q) i (omega (arith, length_O 324)) l m
           ∙ table_value o 324 n offset (i - offsets_at q) (omega arith))
 
-      tile-count : counts_at q ≤ i → i < counts_at q + L → byte_of o 4 (segment_size q ((i - counts_at q) / 4)) ((i - counts_at q) % 4) ≡ byte (outer_in true q place) (i - bits_at q)
-      tile-count l m =
-          sym (beyond-O l ∙ stop (C 325) [] (counts_at q) (counts_at q + L) i (omega (arith, length_C 325)) l m
+      tile_count : counts_at q ≤ i → i < counts_at q + L → byte_of o 4 (segment_size q ((i - counts_at q) / 4)) ((i - counts_at q) % 4) ≡ byte (outer_in true q place) (i - bits_at q)
+      tile_count l m =
+          sym (beyond_O l ∙ stop (C 325) [] (counts_at q) (counts_at q + L) i (omega (arith, length_C 325)) l m
           ∙ table_value o 325 n (segment_size q) (i - counts_at q) (omega arith))
 
-      tile-ratio : ratios_at q ≤ i → i < ratios_at q + 16 → byte_of o 4 1 ((i - ratios_at q) % 4) ≡ byte (outer_in true q place) (i - bits_at q)
-      tile-ratio l m = sym (beyond-B l ∙ ratios_value o (O 324 ++ (C 325 ++ [])) (ratios_at q) i l m)
+      tile_ratio : ratios_at q ≤ i → i < ratios_at q + 16 → byte_of o 4 1 ((i - ratios_at q) % 4) ≡ byte (outer_in true q place) (i - bits_at q)
+      tile_ratio l m = sym (beyond_B l ∙ ratios_value o (O 324 ++ (C 325 ++ [])) (ratios_at q) i l m)
 
 -- the same of strips and of tiles
 module _ (q : Outline) (place i : ℕ) where
   pub bits_byte : (t : Bool) → q.cut.tiled ≡ t → bits_at q ≤ i → i < bits_at q + bits_size q.kind
       → byte_of q.endian 2 q.kind.bits ((i - bits_at q) % 2) ≡ byte (outer_in t q place) (i - bits_at q)
-  bits_byte true e = tile-bits q place e i
-  bits_byte false e = strip-bits q place e i
+  bits_byte true e = tile_bits q place e i
+  bits_byte false e = strip_bits q place e i
 
   pub offset_byte : (t : Bool) → q.cut.tiled ≡ t → offsets_at q ≤ i → i < counts_at q
       → byte_of q.endian 4 (offset_of q place ((i - offsets_at q) / 4)) ((i - offsets_at q) % 4) ≡ byte (outer_in t q place) (i - bits_at q)
-  offset_byte true e = tile-offset q place e i
-  offset_byte false e = strip-offset q place e i
+  offset_byte true e = tile_offset q place e i
+  offset_byte false e = strip_offset q place e i
 
   pub count_byte : (t : Bool) → q.cut.tiled ≡ t → counts_at q ≤ i → i < counts_at q + longs_size (segments_in q)
       → byte_of q.endian 4 (segment_size q ((i - counts_at q) / 4)) ((i - counts_at q) % 4) ≡ byte (outer_in t q place) (i - bits_at q)
-  count_byte true e = tile-count q place e i
+  count_byte true e = tile_count q place e i
   count_byte false e = strip_count q place e i
 
   pub ratio_byte : (t : Bool) → q.cut.tiled ≡ t → ratios_at q ≤ i → i < ratios_at q + 16
       → byte_of q.endian 4 1 ((i - ratios_at q) % 4) ≡ byte (outer_in t q place) (i - bits_at q)
-  ratio_byte true e = tile-ratio q place e i
-  ratio_byte false e = strip-ratio q place e i
+  ratio_byte true e = tile_ratio q place e i
+  ratio_byte false e = strip_ratio q place e i
 
 -- what is not a value of the others is one of the RATIONALs
 pub ratio_left : (q : Outline) (i : ℕ) (t : Bool) → q.cut.tiled ≡ t → bits_at q + bits_size q.kind ≤ i → i < head_size q
@@ -230,11 +230,11 @@ pub ratio_left : (q : Outline) (i : ℕ) (t : Bool) → q.cut.tiled ≡ t → bi
     → (ratios_at q ≤ i) × (i < ratios_at q + 16)
 ratio_left q i true e l m f g =
     ⊎_elim
-    (λ k. let a = b162 q 0 e in let b = bO q 0 e in let c = bR q 0 e in (omega arith, omega arith))
-    (λ k. absurd (⊎_elim (λ h. f k h) (λ h. g h (omega (arith, b162 q 0 e, bO q 0 e))) (cases_lt i (counts_at q))))
+    (λ k. let a = b162 q 0 e in let b = b_o q 0 e in let c = b_r q 0 e in (omega arith, omega arith))
+    (λ k. absurd (⊎_elim (λ h. f k h) (λ h. g h (omega (arith, b162 q 0 e, b_o q 0 e))) (cases_lt i (counts_at q))))
     (cases_lt i (offsets_at q))
 ratio_left q i false e l m f g =
     ⊎_elim
-    (λ k. absurd (⊎_elim (λ h. f (omega (arith, a150 q 0 e, aO q 0 e)) h) (λ h. g h (omega (arith, aO q 0 e, aR q 0 e))) (cases_lt i (counts_at q))))
-    (λ k. let a = a150 q 0 e in let b = aO q 0 e in let c = aR q 0 e in (k, omega arith))
+    (λ k. absurd (⊎_elim (λ h. f (omega (arith, a150 q 0 e, a_o q 0 e)) h) (λ h. g h (omega (arith, a_o q 0 e, a_r q 0 e))) (cases_lt i (counts_at q))))
+    (λ k. let a = a150 q 0 e in let b = a_o q 0 e in let c = a_r q 0 e in (k, omega arith))
     (cases_lt i (ratios_at q))

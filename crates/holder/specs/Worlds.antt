@@ -28,8 +28,8 @@ module _ {S : Type 0} (seen : S → List ℕ) where
   picture_by h = picture_in (held_by h.state) (seen h.store)
 
   module _ (may trail : S → Lists) where
-    abbrev pub worldOf : Holder S → World
-    worldOf h = world (held_by h.state) (mem_of seen may trail h.store)
+    abbrev pub world_of : Holder S → World
+    world_of h = world (held_by h.state) (mem_of seen may trail h.store)
 
     -- what a question to a holder keeps: what it has in mind, and all that its store means but for lists that have lost something
     pub record KeptBy (g h : Holder S) : Type 0 where

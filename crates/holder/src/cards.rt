@@ -5,7 +5,7 @@ ghost use Rattle.drafts.specs.Steps.{Step, Sound, sized_for, sectors};
 ghost use Rattle.drafts.specs.Mem.{mem_of};
 ghost use Rattle.plans.specs.Blocks.{header};
 ghost use Rattle.writer.specs.Drafts.{draft_sector};
-ghost use Rattle.holder.specs.Worlds.{worldOf, held_by, picture_by, asked_size};
+ghost use Rattle.holder.specs.Worlds.{world_of, held_by, picture_by, asked_size};
 ghost use Rattle.holder.specs.Told.{told_unit, told_begin, told_carry, told_rest, told_switch, LiveBegin, LiveCarry, LiveRest, LiveSwitch, WroteBy};
 
 use crate::holder::Holder;
@@ -79,7 +79,7 @@ impl<C: Card> Holder<C> {
 
     // Begins a draft of the picture through a view by a plan; answers the sectors to carry.
     pub fn begin(&mut self, view: View, plan: Plan) -> Result<(Begun, u64), Fault>
-        ensures step { Step (Begin view plan) (worldOf C.Store.seen C.Store.may C.Store.trail self.old) (told_begin result) (worldOf C.Store.seen C.Store.may C.Store.trail self.new) }
+        ensures step { Step (Begin view plan) (world_of C.Store.seen C.Store.may C.Store.trail self.old) (told_begin result) (world_of C.Store.seen C.Store.may C.Store.trail self.new) }
         ensures live { LiveBegin result }
     {
         if self.state.draft.is_some() {
@@ -127,7 +127,7 @@ impl<C: Card> Holder<C> {
 
     // Writes the next sector of the draft, or its last part, in one write; answers the sectors left.
     pub fn carry(&mut self, token: Begun) -> Result<(Begun, u64), (Begun, Fault)>
-        ensures step { Sound (worldOf C.Store.seen C.Store.may C.Store.trail self.old) → Step Carry (worldOf C.Store.seen C.Store.may C.Store.trail self.old) (told_carry result) (worldOf C.Store.seen C.Store.may C.Store.trail self.new) }
+        ensures step { Sound (world_of C.Store.seen C.Store.may C.Store.trail self.old) → Step Carry (world_of C.Store.seen C.Store.may C.Store.trail self.old) (told_carry result) (world_of C.Store.seen C.Store.may C.Store.trail self.new) }
         ensures live { LiveCarry token result }
     {
         let Some(draft) = self.state.draft else {
@@ -148,7 +148,7 @@ impl<C: Card> Holder<C> {
 
     // Settles the card under a draft that is carried.
     pub fn rest(&mut self, token: Begun) -> Result<Rested, (Begun, Fault)>
-        ensures step { Step Rest (worldOf C.Store.seen C.Store.may C.Store.trail self.old) (told_rest result) (worldOf C.Store.seen C.Store.may C.Store.trail self.new) }
+        ensures step { Step Rest (world_of C.Store.seen C.Store.may C.Store.trail self.old) (told_rest result) (world_of C.Store.seen C.Store.may C.Store.trail self.new) }
         ensures live { LiveRest token result }
     {
         let Some(draft) = self.state.draft else {
@@ -174,7 +174,7 @@ impl<C: Card> Holder<C> {
 
     // Has the header lead to the draft, in one write.
     pub fn switch(&mut self, token: Rested) -> Result<Switched, (Rested, Fault)>
-        ensures step { Sound (worldOf C.Store.seen C.Store.may C.Store.trail self.old) → Step Switch (worldOf C.Store.seen C.Store.may C.Store.trail self.old) (told_switch result) (worldOf C.Store.seen C.Store.may C.Store.trail self.new) }
+        ensures step { Sound (world_of C.Store.seen C.Store.may C.Store.trail self.old) → Step Switch (world_of C.Store.seen C.Store.may C.Store.trail self.old) (told_switch result) (world_of C.Store.seen C.Store.may C.Store.trail self.new) }
         ensures live { LiveSwitch token result }
     {
         let Some(draft) = self.state.draft else {
@@ -190,7 +190,7 @@ impl<C: Card> Holder<C> {
 
     // Settles the card, and shows the page that the header now leads to.
     pub fn keep(&mut self, token: Switched) -> Result<(), Fault>
-        ensures { Step Keep (worldOf C.Store.seen C.Store.may C.Store.trail self.old) (told_unit result) (worldOf C.Store.seen C.Store.may C.Store.trail self.new) }
+        ensures { Step Keep (world_of C.Store.seen C.Store.may C.Store.trail self.old) (told_unit result) (world_of C.Store.seen C.Store.may C.Store.trail self.new) }
     {
         token.spend();
         let Some(draft) = self.state.draft else {
@@ -209,7 +209,7 @@ impl<C: Card> Holder<C> {
 
     // Gives up the draft.
     pub fn scrap(&mut self, token: Token) -> Result<(), Fault>
-        ensures { Step Scrap (worldOf C.Store.seen C.Store.may C.Store.trail self.old) (told_unit result) (worldOf C.Store.seen C.Store.may C.Store.trail self.new) }
+        ensures { Step Scrap (world_of C.Store.seen C.Store.may C.Store.trail self.old) (told_unit result) (world_of C.Store.seen C.Store.may C.Store.trail self.new) }
     {
         token.spend();
         let Some(draft) = self.state.draft else {

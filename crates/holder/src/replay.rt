@@ -6,7 +6,7 @@ ghost use Rattle.drafts.specs.Steps.{Step, Sound};
 ghost use Rattle.netpbm.specs.Window.{window_buffer};
 ghost use Rattle.law.specs.Book.{buffer_by};
 ghost use Rattle.law.specs.Run.{roomed, Stepped, LawfulRun};
-ghost use Rattle.holder.specs.Worlds.{worldOf, picture_by, told_open};
+ghost use Rattle.holder.specs.Worlds.{world_of, picture_by, told_open};
 ghost use Rattle.holder.specs.Told.{told_unit, told_begin, told_carry, told_rest, told_switch};
 ghost use Rattle.holder.specs.Lines.{line_of, lines_of};
 
@@ -95,7 +95,7 @@ fn switched(res: Result<Switched, (Rested, Fault)>) -> Result<Reply, Fault>
 impl<C: Card> Holder<C> {
     // Opens a page, and answers its size and kind.
     fn show(&mut self, page: u32) -> Result<Reply, Fault>
-        ensures { Step (Open page) (worldOf C.Store.seen C.Store.may C.Store.trail self.old) result (worldOf C.Store.seen C.Store.may C.Store.trail self.new) }
+        ensures { Step (Open page) (world_of C.Store.seen C.Store.may C.Store.trail self.old) result (world_of C.Store.seen C.Store.may C.Store.trail self.new) }
     {
         match self.open(page) {
             Ok(()) => Ok(Reply::Shown(self.size(), self.kind())),
@@ -105,7 +105,7 @@ impl<C: Card> Holder<C> {
 
     // Asks for a pixel.
     fn ask(&mut self, x: u32, y: u32) -> Result<Reply, Fault>
-        ensures { Step (Pixel x y) (worldOf C.Store.seen C.Store.may C.Store.trail self.old) result (worldOf C.Store.seen C.Store.may C.Store.trail self.new) }
+        ensures { Step (Pixel x y) (world_of C.Store.seen C.Store.may C.Store.trail self.old) result (world_of C.Store.seen C.Store.may C.Store.trail self.new) }
     {
         match self.pixel(x, y) {
             Ok(number) => Ok(Reply::Number(number as u64)),
@@ -115,7 +115,7 @@ impl<C: Card> Holder<C> {
 
     // Prints a window.
     fn print(&mut self, area: Area, buffer: &mut [u8]) -> Result<Reply, Fault>
-        ensures step { Step (Window area (length buffer.old)) (worldOf C.Store.seen C.Store.may C.Store.trail self.old) result (worldOf C.Store.seen C.Store.may C.Store.trail self.new) }
+        ensures step { Step (Window area (length buffer.old)) (world_of C.Store.seen C.Store.may C.Store.trail self.old) result (world_of C.Store.seen C.Store.may C.Store.trail self.new) }
         ensures buffer { buffer.new ≡ window_buffer (picture_by C.Store.seen self.old) area buffer.old }
     {
         match self.window(area, buffer) {
@@ -126,7 +126,7 @@ impl<C: Card> Holder<C> {
 
     // Makes one call of a run, with a draft of its own where the call takes one.
     fn make(&mut self, call: Call, buffer: &mut [u8]) -> Result<Reply, Fault>
-        ensures step { Sound (worldOf C.Store.seen C.Store.may C.Store.trail self.old) → Step (roomed call (length buffer.old)) (worldOf C.Store.seen C.Store.may C.Store.trail self.old) result (worldOf C.Store.seen C.Store.may C.Store.trail self.new) }
+        ensures step { Sound (world_of C.Store.seen C.Store.may C.Store.trail self.old) → Step (roomed call (length buffer.old)) (world_of C.Store.seen C.Store.may C.Store.trail self.old) result (world_of C.Store.seen C.Store.may C.Store.trail self.new) }
         ensures buffer { buffer.new ≡ buffer_by (picture_by C.Store.seen self.old) call buffer.old }
     {
         match call {
@@ -145,7 +145,7 @@ impl<C: Card> Holder<C> {
 
     // Makes the call of a line.
     fn answer(&mut self, line: &mut Line)
-        ensures stepped { Stepped (worldOf C.Store.seen C.Store.may C.Store.trail self.old) (line_of line.old line.new) (worldOf C.Store.seen C.Store.may C.Store.trail self.new) }
+        ensures stepped { Stepped (world_of C.Store.seen C.Store.may C.Store.trail self.old) (line_of line.old line.new) (world_of C.Store.seen C.Store.may C.Store.trail self.new) }
         ensures call { line.new.call ≡ line.old.call }
     {
         line.answer = self.make(line.call, &mut line.buffer);

@@ -3,7 +3,7 @@ ghost use Rattle.std.specs.Prelude.{◌≡◌, length, Ok};
 ghost use Rattle.drafts.specs.declared.call.Call.TheVariants.{Open, Window, Arrow};
 ghost use Rattle.drafts.specs.Steps.{Step, number, fresh};
 ghost use Rattle.netpbm.specs.Window.{window_buffer};
-ghost use Rattle.holder.specs.Worlds.{worldOf, held_by, picture_by, told_open};
+ghost use Rattle.holder.specs.Worlds.{world_of, held_by, picture_by, told_open};
 ghost use Rattle.holder.specs.Soundness.{holder_sound, holder_keeps};
 
 use crate::holder::Holder;
@@ -67,7 +67,7 @@ impl<S: Store> Holder<S> {
 
     // Shows a page, from 0; refused, what is shown stays. Every call but a Busy one settles the store.
     pub fn open(&mut self, page: u32) -> Result<(), Fault>
-        ensures { Step (Open page) (worldOf S.Store.seen S.Store.may S.Store.trail self.old) (told_open (picture_by S.Store.seen self.new) result) (worldOf S.Store.seen S.Store.may S.Store.trail self.new) }
+        ensures { Step (Open page) (world_of S.Store.seen S.Store.may S.Store.trail self.old) (told_open (picture_by S.Store.seen self.new) result) (world_of S.Store.seen S.Store.may S.Store.trail self.new) }
     {
         if self.state.draft.is_some() {
             return Err(Check::Busy.fault());
@@ -81,7 +81,7 @@ impl<S: Store> Holder<S> {
 
     // A rectangle of the picture as a Netpbm file; a refusal leaves the buffer as it was.
     pub fn window(&mut self, area: Area, buffer: &mut [u8]) -> Result<usize, Fault>
-        ensures step { Step (Window area (length buffer.old)) (worldOf S.Store.seen S.Store.may S.Store.trail self.old) (number result) (worldOf S.Store.seen S.Store.may S.Store.trail self.new) }
+        ensures step { Step (Window area (length buffer.old)) (world_of S.Store.seen S.Store.may S.Store.trail self.old) (number result) (world_of S.Store.seen S.Store.may S.Store.trail self.new) }
         ensures buffer { buffer.new ≡ window_buffer (picture_by S.Store.seen self.old) area buffer.old }
     {
         window(self, area, buffer)
@@ -89,7 +89,7 @@ impl<S: Store> Holder<S> {
 
     // The one turn that the orientation and all turns kept since opening amount to, 1 if closed.
     pub fn arrow(&self) -> u8
-        ensures { Step Arrow (worldOf S.Store.seen S.Store.may S.Store.trail self.now) (number (Ok result)) (worldOf S.Store.seen S.Store.may S.Store.trail self.now) }
+        ensures { Step Arrow (world_of S.Store.seen S.Store.may S.Store.trail self.now) (number (Ok result)) (world_of S.Store.seen S.Store.may S.Store.trail self.now) }
     {
         self.state.arrow
     }

@@ -84,19 +84,19 @@ begin_shown v plan l arrow bs may may' sl r e g less = by r e
     place_is : place_in (book sl None bs) v plan ≡ room_for bs l v plan
     place_is = ap (place_by bs v plan None) page_is
 
-    answer-is : begin_answer (picture_of bs l) v plan (room_for bs l v plan) ≡ due (book sl None bs) (Begin v plan)
-    answer-is = λ i. begin_answer (p.picture i) v plan (sym place_is i)
+    answer_is : begin_answer (picture_of bs l) v plan (room_for bs l v plan) ≡ due (book sl None bs) (Begin v plan)
+    answer_is = λ i. begin_answer (p.picture i) v plan (sym place_is i)
 
     by : (r : Result ℕ Fault) → room_for bs l v plan ≡ r
         → Outcome (book sl None bs) (Begin v plan) (begin_answer (picture_of bs l) v plan r) (begin_held (held (Some l) arrow None) v plan r) bs may'
     by (Err f) e =
-        refused (Begin v plan) f (held (Some l) arrow None) bs may may' sl g less (sym (ap (begin_answer (picture_of bs l) v plan) e) ∙ answer-is)
+        refused (Begin v plan) f (held (Some l) arrow None) bs may may' sl g less (sym (ap (begin_answer (picture_of bs l) v plan) e) ∙ answer_is)
     by (Ok place) e =
         let k = room_known bs l v plan place e in
         let d : Draft = draft_at v plan place in
         let f : Fits (length bs) d (picture_of bs l) = record { shows = k.shows; few = k.few; whole = k.suits.multiple; first = k.suits.above; ends = k.suits.ends } in
         record {
-          right = sym (ap (begin_answer (picture_of bs l) v plan) e) ∙ answer-is;
+          right = sym (ap (begin_answer (picture_of bs l) v plan) e) ∙ answer_is;
           at = record {
             draft = ap (λ r. begun v plan r None) (place_is ∙ e);
             bytes = refl;

@@ -29,13 +29,13 @@ module _ (bs : List ℕ) (directories : ℕ) (d : Directory) where
   page_1 f a = simp a
 
   module _ (fs : Fields) (a : fielded bs d ≡ Ok fs) where
-    pub page-2 : (f : Fault) → laid_out d directories fs (values_of d.endian bs fs) ≡ Err f → page_of bs directories d ≡ Err f
+    pub page_2 : (f : Fault) → laid_out d directories fs (values_of d.endian bs fs) ≡ Err f → page_of bs directories d ≡ Err f
     unfolding page_of
-    page-2 f b = simp (a, b)
+    page_2 f b = simp (a, b)
 
-    pub page-3 : (l : Layout) → laid_out d directories fs (values_of d.endian bs fs) ≡ Ok l → page_of bs directories d ≡ filled bs l
+    pub page_3 : (l : Layout) → laid_out d directories fs (values_of d.endian bs fs) ≡ Ok l → page_of bs directories d ≡ filled bs l
     unfolding page_of
-    page-3 l b = simp (a, b)
+    page_3 l b = simp (a, b)
 
 module _ (bs : List ℕ) (page : ℕ) where
   pub open_1 : (f : Fault) → walked bs ≡ Err f → opened bs page ≡ Err f
@@ -43,13 +43,13 @@ module _ (bs : List ℕ) (page : ℕ) where
   open_1 f a = simp a
 
   module _ (ds : Directories) (a : walked bs ≡ Ok ds) where
-    pub open-2 : (f : Fault) → placed ds page ≡ Err f → opened bs page ≡ Err f
+    pub open_2 : (f : Fault) → placed ds page ≡ Err f → opened bs page ≡ Err f
     unfolding opened
-    open-2 f b = ap (λ r. then r (λ ds. then (placed ds page) (λ place. page_at ds.endian bs ds.count page place))) a ∙ ap (λ r. then r (λ place. page_at ds.endian bs ds.count page place)) b
+    open_2 f b = ap (λ r. then r (λ ds. then (placed ds page) (λ place. page_at ds.endian bs ds.count page place))) a ∙ ap (λ r. then r (λ place. page_at ds.endian bs ds.count page place)) b
 
-    pub open-3 : (place : ℕ) → placed ds page ≡ Ok place → opened bs page ≡ page_at ds.endian bs ds.count page place
+    pub open_3 : (place : ℕ) → placed ds page ≡ Ok place → opened bs page ≡ page_at ds.endian bs ds.count page place
     unfolding opened
-    open-3 place b = ap (λ r. then r (λ ds. then (placed ds page) (λ place. page_at ds.endian bs ds.count page place))) a ∙ ap (λ r. then r (λ place. page_at ds.endian bs ds.count page place)) b
+    open_3 place b = ap (λ r. then r (λ ds. then (placed ds page) (λ place. page_at ds.endian bs ds.count page place))) a ∙ ap (λ r. then r (λ place. page_at ds.endian bs ds.count page place)) b
 
 -- an accepted tally has one offset and one byte count a segment, and few segments
 pub record Tallied (m : Layout) : Type 0 where

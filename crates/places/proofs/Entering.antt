@@ -94,14 +94,14 @@ padded_byte bs xs place k n e h got i l = by (cases_lt i k)
     is : xs ≡ take k (drop place bs)
     is = got ∙ ap (part_or (take k (zeros n)) bs place) zs ∙ part_or_inside (take k (zeros n)) bs place k (omega arith)
 
-    long-enough : length xs ≡ k
-    long-enough = ap length is ∙ length-take-le k (drop place bs) (let r = length-drop place bs in omega arith)
+    long_enough : length xs ≡ k
+    long_enough = ap length is ∙ length-take-le k (drop place bs) (let r = length-drop place bs in omega arith)
 
     by : (i < k) ⊎ (k ≤ i) → get_or (xs ++ drop k (zeros n)) i 0 ≡ byte bs (place + i)
     by (inl c) =
-        get_or_append_left xs (drop k (zeros n)) 0 i (let z = long-enough in omega arith)
+        get_or_append_left xs (drop k (zeros n)) 0 i (let z = long_enough in omega arith)
         ∙ ap (λ ys. get_or ys i 0) is ∙ get_or-take k (drop place bs) i 0 c ∙ get_or-drop place bs i 0
     by (inr c) =
-        get_or-append_right xs (drop k (zeros n)) k i 0 long-enough c
+        get_or-append_right xs (drop k (zeros n)) k i 0 long_enough c
         ∙ get_or-drop k (zeros n) (i - k) 0 ∙ zeros_byte n (k + (i - k))
         ∙ sym (get_or_past bs (place + i) 0 (omega arith))

@@ -25,12 +25,12 @@ length_pixel k v = pick (colour k)
 -- every row has the stride's length
 pub length_row : (p : Picture) (y : ℕ) → length (row_bytes p y) ≡ stride p.kind p.width
 length_row p y =
-    ap-cond length (bilevel p.kind) (octet_row p y) (pixel_row p y)
+    ap_cond length (bilevel p.kind) (octet_row p y) (pixel_row p y)
     ∙ ap₂ (cond (bilevel p.kind)) (length-map-range_with_len (octet p y) 0 ((p.width + 7) / 8)) pixels
   where
-    ap-cond : (f : List ℕ → ℕ) (b : Bool) (xs ys : List ℕ) → f (cond b xs ys) ≡ cond b (f xs) (f ys)
-    ap-cond f true xs ys = refl
-    ap-cond f false xs ys = refl
+    ap_cond : (f : List ℕ → ℕ) (b : Bool) (xs ys : List ℕ) → f (cond b xs ys) ≡ cond b (f xs) (f ys)
+    ap_cond f true xs ys = refl
+    ap_cond f false xs ys = refl
 
     times : (b : Bool) (n : ℕ) → cond b 3 1 * n ≡ cond b (3 * n) n
     times true n = refl

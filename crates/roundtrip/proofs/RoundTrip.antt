@@ -43,7 +43,7 @@ use Rattle.blocks.proofs.Places.{length_segment, full_length, segments_length, l
 use Rattle.roundtrip.specs.Laws.{Drafted, PageRoundTrip, RoundTrip, file_of, FileOpens}
 use Rattle.roundtrip.proofs.Reading.{entries_by}
 use Rattle.roundtrip.proofs.Page.{laid_out_lem}
-use Rattle.roundtrip.proofs.Segments.{offset_read, needed_is, page_filled, pixel-back}
+use Rattle.roundtrip.proofs.Segments.{offset_read, needed_is, page_filled, pixel_back}
 use Rattle.roundtrip.proofs.Spans.{Between, between_covered, between_append, between_map, between_values}
 
 length_magic : (o : Endian) → length (magic o) ≡ 4
@@ -126,7 +126,7 @@ module _ (q : Outline) (at : ℕ → ℕ → ℕ) (place : ℕ) (bs : List ℕ) 
       let pixels : (x y : ℕ) → framed q.width q.height (stored_pixel bs layout) x y ≡ at x y = λ x y.
       cond_both (within q.width q.height x y) (stored_pixel bs layout x y) 0 (λ v. v ≡ at x y)
       (λ e. let both = and_parts (ltb x q.width) (ltb y q.height) e in
-      pixel-back q at bs place start proper said.values low sizes (omega arith) segment_here x y (ltb-true x q.width both.0) (ltb-true y q.height both.1)
+      pixel_back q at bs place start proper said.values low sizes (omega arith) segment_here x y (ltb-true x q.width both.0) (ltb-true y q.height both.1)
       (subst (λ (f : ℕ → ℕ → ℕ). f x y < levels q.kind) ea (subst (λ k. p.at x y < levels k) ek (sound.samples x y))))
       (λ e. sym (ap (λ (f : ℕ → ℕ → ℕ). f x y) (sym ea) ∙ sound.outside x y (ap₂ (λ w h. within w h x y) ew eh ∙ e))) in
       λ i. record { width = sym ew i; height = sym eh i; kind = sym ek i; at = (fun_ext (λ x. fun_ext (λ y. pixels x y)) ∙ sym ea) i }
@@ -165,13 +165,13 @@ module _ (q : Outline) (at : ℕ → ℕ → ℕ) (place : ℕ) (bs : List ℕ) 
   -- the file
 
   module _ (head : Holds bs 0 (header q.endian place)) where
-    magic-is : take 4 bs ≡ magic q.endian
-    magic-is =
+    magic_is : take 4 bs ≡ magic q.endian
+    magic_is =
         ap (λ n. take n bs) (sym (length_magic q.endian))
         ∙ holds_part bs 0 (magic q.endian) (holds_front bs 0 (magic q.endian) (number_bytes q.endian 4 place) head)
 
-    first-link : long q.endian bs 4 ≡ place
-    first-link =
+    first_link : long q.endian bs 4 ≡ place
+    first_link =
         number_held q.endian bs 4 4 place (omega (arith, here.fits))
         (holds_back bs 0 4 (magic q.endian) (number_bytes q.endian 4 place) (omega (arith, length_magic q.endian)) head)
 
@@ -186,15 +186,15 @@ module _ (q : Outline) (at : ℕ → ℕ → ℕ) (place : ℕ) (bs : List ℕ) 
 
     pub chain_found : walked bs ≡ Ok (listed q.endian (place ∷ []))
     chain_found =
-        one_directory bs q.endian place magic-is first-link stands
+        one_directory bs q.endian place magic_is first_link stands
         (ap (λ n. long q.endian bs (place + 2 + 12 * n)) count_is ∙ link_is)
 
     abbrev found : Directories
     found = listed q.endian (place ∷ [])
 
-    pub file-opens : opened bs 0 ≡ Ok layout
+    pub file_opens : opened bs 0 ≡ Ok layout
     unfolding opened
-    file-opens =
+    file_opens =
         ap (λ r. then r (λ ds. then (placed ds 0) (λ p. page_at ds.endian bs ds.count 0 p))) chain_found
         ∙ ap (λ r. then r (λ p. page_at found.endian bs found.count 0 p)) (accepted_page bs found chain_found 0 (omega (arith, count_listed q.endian (place ∷ []))))
         ∙ (λ i. page_at (endian_listed q.endian (place ∷ []) i) bs (count_listed q.endian (place ∷ []) i) 0 (place_listed q.endian (place ∷ []) 0 (omega arith) i))
@@ -228,7 +228,7 @@ unfolding block_layout
 round_trip o tiled wide high p place bs d small here head =
     let q : Outline = outline_of o tiled wide high p in
     let proper = drafted_proper o tiled wide high p place d in
-    let page : opened bs 0 ≡ Ok (block_layout q place) = file-opens q p.at place bs proper d.few d.aligned d.past small here head in
+    let page : opened bs 0 ≡ Ok (block_layout q place) = file_opens q p.at place bs proper d.few d.aligned d.past small here head in
     record {
       chain = chain_found q p.at place bs proper d.few d.aligned d.past small here head;
       page = page;
@@ -247,7 +247,7 @@ smallest_file o tiled wide high p d short =
     let gap : length (replicate {A = ℕ} 504 0) ≡ 504 = length-replicate {A = ℕ} 504 0 in
     let len : length (file_of o tiled wide high p) ≡ 512 + block_size (outline_of o tiled wide high p) =
     omega (arith, length-append (header o 512) rest, length-append (replicate 504 0) here, length_block q p.at (drafted_proper o tiled wide high p 512 d) 512) in
-    let after-head : Holds file 8 rest = holds_back file 0 8 (header o 512) rest (omega arith) (holds_self file) in
+    let after_head : Holds file 8 rest = holds_back file 0 8 (header o 512) rest (omega arith) (holds_self file) in
     round_trip o tiled wide high p 512 file d (omega arith)
-    (holds_back file 8 512 (replicate 504 0) here (omega arith) after-head)
+    (holds_back file 8 512 (replicate 504 0) here (omega arith) after_head)
     (holds_front file 0 (header o 512) rest (holds_self file))

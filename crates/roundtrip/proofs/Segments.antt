@@ -123,69 +123,69 @@ module _ (q : Outline) (at : ℕ → ℕ → ℕ) (bs : List ℕ) (place start :
     unfolding segments
     in_segments = digits_lt (div_below_ceil y q.height q.cut.high (segment_sides q proper).some_high iny) in_across
 
-    column-of : here % across q.cut q.width ≡ x / q.cut.wide
-    column-of = digits_mod (y / q.cut.high) in_across
+    column_of : here % across q.cut q.width ≡ x / q.cut.wide
+    column_of = digits_mod (y / q.cut.high) in_across
 
-    row-of : here / across q.cut q.width ≡ y / q.cut.high
-    row-of = digits_div (y / q.cut.high) in_across
+    row_of_lem : here / across q.cut q.width ≡ y / q.cut.high
+    row_of_lem = digits_div (y / q.cut.high) in_across
 
     in_rows : y % q.cut.high < rows_of q.cut q.width q.height here
     in_rows =
         let l : y % q.cut.high < q.cut.high = mod-lt y (segment_sides q proper).some_high in
-        let e : first_row q.cut q.width here ≡ y / q.cut.high * q.cut.high = ap (λ r. r * q.cut.high) row-of in
+        let e : first_row q.cut q.width here ≡ y / q.cut.high * q.cut.high = ap (λ r. r * q.cut.high) row_of_lem in
         cond_both q.cut.tiled q.cut.high (min q.cut.high (q.height - first_row q.cut q.width here)) (λ n. y % q.cut.high < n)
         (λ _. l)
         (λ _. rw e (omega (arith, div-add-mod' y q.cut.high)))
 
-    pixel-of : pixel_of q at here (x % q.cut.wide) (y % q.cut.high) ≡ at x y
-    pixel-of =
+    pixel_of_lem : pixel_of q at here (x % q.cut.wide) (y % q.cut.high) ≡ at x y
+    pixel_of_lem =
         ap₂ (framed q.width q.height at)
-        (ap (λ a. a * q.cut.wide + x % q.cut.wide) column-of ∙ div-add-mod' x q.cut.wide)
-        (ap (λ a. a * q.cut.high + y % q.cut.high) row-of ∙ div-add-mod' y q.cut.high)
+        (ap (λ a. a * q.cut.wide + x % q.cut.wide) column_of ∙ div-add-mod' x q.cut.wide)
+        (ap (λ a. a * q.cut.high + y % q.cut.high) row_of_lem ∙ div-add-mod' y q.cut.high)
         ∙ cond-true (within q.width q.height x y) (at x y) 0
         (and_from (ltb x q.width) (ltb y q.height) (lt-ltb x q.width inx) (lt-ltb y q.height iny))
 
     abbrev from : ℕ
     from = offset_of bs layout here + y % q.cut.high * row_bytes q.cut q.kind
 
-    row-held : Holds bs from (row_of q at here (y % q.cut.high))
+    row_held : Holds bs from (row_of q at here (y % q.cut.high))
     unfolding segment
-    row-held =
+    row_held =
         holds_chain bs (row_of q at here) (row_bytes q.cut q.kind) (offset_of bs layout here)
         (rows_of q.cut q.width q.height here) (y % q.cut.high)
         (λ i _. length_packed_row q.kind.bits (q.cut.wide * samples_of q.kind) (sample_of q at here i))
         in_rows (subst (λ p. Holds bs p (segment q at here)) (sym (offset_read here in_segments)) (held here in_segments))
 
-    row-length : length (row_of q at here (y % q.cut.high)) ≡ row_bytes q.cut q.kind
-    row-length = length_packed_row q.kind.bits (q.cut.wide * samples_of q.kind) (sample_of q at here (y % q.cut.high))
+    row_length : length (row_of q at here (y % q.cut.high)) ≡ row_bytes q.cut q.kind
+    row_length = length_packed_row q.kind.bits (q.cut.wide * samples_of q.kind) (sample_of q at here (y % q.cut.high))
 
     abbrev first : ℕ
     first = x % q.cut.wide * samples_of q.kind
 
-    sample-of : (j : ℕ) → j < samples_of q.kind →
+    sample_of_lem : (j : ℕ) → j < samples_of q.kind →
         sample_in q.kind.bits (λ i. byte bs (from + i)) (first + j) ≡ digit (2 ^ q.kind.bits) (samples_of q.kind) (at x y) j
-    sample-of j l =
+    sample_of_lem j l =
         sample_back q.kind.bits (q.cut.wide * samples_of q.kind) (sample_of q at here (y % q.cut.high)) (λ i. byte bs (from + i))
         (allowed_bits q.kind proper.kind)
         (λ s _. digit_below (2 ^ q.kind.bits) (samples_of q.kind) (pixel_of q at here (s / samples_of q.kind) (y % q.cut.high)) (s % samples_of q.kind) (pow_pos q.kind.bits))
-        (λ i m. row-held.same i (omega (arith, row-length)))
+        (λ i m. row_held.same i (omega (arith, row_length)))
         (first + j)
         (digits_lt (mod-lt x (segment_sides q proper).some_wide) l)
         ∙ ap₂ (λ v t. digit (2 ^ q.kind.bits) (samples_of q.kind) v t)
-        (ap (λ a. pixel_of q at here a (y % q.cut.high)) (digits_div (x % q.cut.wide) l) ∙ pixel-of)
+        (ap (λ a. pixel_of q at here a (y % q.cut.high)) (digits_div (x % q.cut.wide) l) ∙ pixel_of_lem)
         (digits_mod (x % q.cut.wide) l)
 
     pixel_inside : inside bs (from + first / per_byte q.kind.bits) (samples_of q.kind) ≡ true
     pixel_inside =
         le-leb (from + first / per_byte q.kind.bits + samples_of q.kind) (length bs)
-        (omega (arith, row-held.fits, row-length, room q.kind.photometric q.kind.bits proper.kind q.cut.wide (x % q.cut.wide) (mod-lt x (segment_sides q proper).some_wide)))
+        (omega (arith, row_held.fits, row_length, room q.kind.photometric q.kind.bits proper.kind q.cut.wide (x % q.cut.wide) (mod-lt x (segment_sides q proper).some_wide)))
 
-    pub pixel-back : at x y < levels q.kind → stored_pixel bs layout x y ≡ at x y
+    pub pixel_back : at x y < levels q.kind → stored_pixel bs layout x y ≡ at x y
     unfolding stored_pixel pixel_in block_layout
-    pixel-back below =
+    pixel_back below =
         cond-true (inside bs (from + first / per_byte q.kind.bits) (samples_of q.kind)) (pixel_in bs layout x y) 0 pixel_inside
         ∙ packed_same (2 ^ q.kind.bits) (samples_of q.kind)
         (λ j. sample_in q.kind.bits (λ i. byte bs (from + i)) (first + j))
         (digit (2 ^ q.kind.bits) (samples_of q.kind) (at x y))
-        sample-of
+        sample_of_lem
         ∙ packed_digit (2 ^ q.kind.bits) (samples_of q.kind) (at x y) (subst (λ n. at x y < n) (sym (levels_samples q.kind proper.kind)) below)

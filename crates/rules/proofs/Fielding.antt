@@ -14,7 +14,7 @@ use Rattle.entries.specs.declared.entry.Shape.TheVariants.{One, OneShort, Bits, 
 use Rattle.entries.specs.declared.fields.Fields.{Fields}
 use Rattle.entries.specs.Entries.{entries_of, accepted, shaped, shape_of, fits, astray, scanned, size}
 use Rattle.entries.specs.Fields.{gathered, fielded}
-use Rattle.entries.proofs.Accepting.{accepted_by, accepted-listed}
+use Rattle.entries.proofs.Accepting.{accepted_by, accepted_listed}
 use Rattle.rules.specs.Rules.{Ascending, Typed, Stored, FieldRules, EntryRules}
 
 decides_number : (kind : ℕ) → Decides (eqb kind 3 || eqb kind 4) ((kind ≡ 3) ⊎ (kind ≡ 4))
@@ -85,7 +85,7 @@ accepted_ok n page least e h r = by (shape_of e.tag) refl
     by None k = accepted_by n page least e None h k
     by (Some s) k =
         let f = r s (sym k) in
-        accepted-listed n page least e s h k ((decides_typed s e.kind e.count).1 f.typed) (stored_astray n e f.stored)
+        accepted_listed n page least e s h k ((decides_typed s e.kind e.count).1 f.typed) (stored_astray n e f.stored)
 
 -- all entries
 pub scanned_was : (n page least : ℕ) (es : List Entry) → scanned n page least es ≡ Ok tt → Ascending least es × AllByRecursion (EntryRules n) es

@@ -11,7 +11,7 @@ use Rattle.entries.specs.declared.entry.Directory.{Directory}
 use Rattle.entries.specs.Entries.{directory_at}
 use Rattle.pages.specs.declared.layout.Layout.{Layout}
 use Rattle.pages.specs.Opening.{page_of, page_at, HasPage}
-use Rattle.pages.proofs.Stages.{open-3}
+use Rattle.pages.proofs.Stages.{open_3}
 use Rattle.rules.specs.Local.{PageLocal, PageStands, OpeningLocal}
 use Rattle.rules.proofs.Meeting.{Paged, page_was, opened_was}
 use Rattle.rules.proofs.Staying.{directory_same, same_page, same_extents}
@@ -69,6 +69,6 @@ opening_local bs cs l e one len header agree =
       links = λ j m. subst (λ q. Agree bs cs (link_of ds.endian bs (get_or ds.places q 0)) 4) (sym (first j m))
           (agree_in bs cs place (6 + 12 * short ds.endian bs place) (place + 2 + 12 * short ds.endian bs place) 4 (omega arith) (omega arith) whole);
     } in
-    open-3 cs 0 ds walks place (accepted_page cs ds walks 0 x.there)
+    open_3 cs 0 ds walks place (accepted_page cs ds walks 0 x.there)
     ∙ sym (λ i. page_at (k.0 i).endian cs (k.1 i) (k.0 i).page (k.0 i).place)
     ∙ (page_local bs cs l h len agree).0

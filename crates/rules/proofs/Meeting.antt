@@ -26,7 +26,7 @@ use Rattle.pages.specs.Geometry.{segments_of}
 use Rattle.pages.specs.Pages.{tiled, complete, formatted, sampled, cut_of, tallied, layout_of, laid_out, values_of, interpreted}
 use Rattle.pages.specs.Segments.{filled}
 use Rattle.pages.specs.Opening.{page_of, page_at, opened}
-use Rattle.pages.proofs.Stages.{page-3, open-3}
+use Rattle.pages.proofs.Stages.{page_3, open_3}
 use Rattle.rules.specs.Rules.{FormatRules, KindRules, SideRules, NeededTags, TallyRules, SegmentRules, PageRules, MeetsRules, AcceptedExactly, fields_in, layout_in, layout_by, cut_by}
 use Rattle.rules.proofs.Fielding.{scanned_was, scanned_ok, fielded_was, fielded_ok}
 use Rattle.rules.proofs.Needing.{complete_was, complete_ok}
@@ -127,7 +127,7 @@ page_ok : (bs : List ℕ) (n : ℕ) (d : Directory) (r : PageRules bs n d) → p
 page_ok bs n d r =
     let a = fielded_ok bs d (scanned_ok (length bs) d.page 0 (entries_of bs d) r.ascending r.fields) in
     let b = laid_ok d n (fields_in bs d) (values_of d.endian bs (fields_in bs d)) r.offsets r.counts r.needs r.format r.kind r.sides r.tally in
-    page-3 bs n d (fields_in bs d) a (layout_in bs n d r.offsets r.counts) b ∙ filled_ok bs (layout_in bs n d r.offsets r.counts) r.segments
+    page_3 bs n d (fields_in bs d) a (layout_in bs n d r.offsets r.counts) b ∙ filled_ok bs (layout_in bs n d r.offsets r.counts) r.segments
 
 -- an opened page and its directory
 pub record Opened (bs : List ℕ) (page : ℕ) (l : Layout) : Type 0 where
@@ -174,7 +174,7 @@ accepts bs page m =
     let p = place_listed m.order m.places page m.there in
     let o = endian_listed m.order m.places in
     let h : page < ds.count = omega (arith, n, m.there) in
-    open-3 bs page ds w (get_or ds.places page 0) (accepted_page bs ds w page h)
+    open_3 bs page ds w (get_or ds.places page 0) (accepted_page bs ds w page h)
     ∙ (λ i. page_at (o i) bs (n i) page (p i))
     ∙ page_ok bs (length m.places) (directory_at m.order bs page (get_or m.places page 0)) m.rules
 

@@ -17,7 +17,7 @@ use Rattle.pages.specs.Pages.{tiled, format_of, sampling_of, sides_of, values_of
 use Rattle.pages.specs.Segments.{offset_of, byte_count_of}
 use Rattle.pages.specs.Opening.{page_of}
 use Rattle.pages.specs.Extents.{Span, span, directory_span, segment_span, value_spans, extents, Covered, AgreeOn}
-use Rattle.pages.proofs.Stages.{page-3}
+use Rattle.pages.proofs.Stages.{page_3}
 use Rattle.rules.specs.Rules.{EntryRules, SegmentRules, table_in}
 use Rattle.rules.proofs.Fielding.{scanned_was, fielded_ok}
 use Rattle.rules.proofs.Deciding.{filled_ok}
@@ -155,7 +155,7 @@ module _ (bs cs : List ℕ) (l : Layout) (p : Paged bs l.directories l.directory
 
   pub same_page : page_of cs l.directories d ≡ Ok l
   same_page =
-      page-3 cs l.directories d fs same_fielded l (ap (laid_out d l.directories fs) (sym same_values) ∙ p.laid_out_lem)
+      page_3 cs l.directories d fs same_fielded l (ap (laid_out d l.directories fs) (sym same_values) ∙ p.laid_out_lem)
       ∙ filled_ok cs l same_segment
 
   pub same_extents : extents cs l ≡ extents bs l

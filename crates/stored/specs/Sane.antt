@@ -48,12 +48,12 @@ allowed_bits k t = by k.photometric k.bits t
         (λ h. inr (⊎_elim (λ k. inl (eqb-true b 4 k)) (λ k. inr (eqb-true b 8 k)) (or_cases (b == 4) (b == 8) h)))
         (or_cases (b == 1) (b == 4 || b == 8) e)
 
-    grey-only : (b : ℕ) → ((b == 1 || (b == 4 || b == 8)) || false) ≡ true → Bits b
-    grey-only b e = ⊎_elim (grey b) (λ h. absurd (false≢true h)) (or_cases (b == 1 || (b == 4 || b == 8)) false e)
+    grey_only : (b : ℕ) → ((b == 1 || (b == 4 || b == 8)) || false) ≡ true → Bits b
+    grey_only b e = ⊎_elim (grey b) (λ h. absurd (false≢true h)) (or_cases (b == 1 || (b == 4 || b == 8)) false e)
 
     by : (p : Photometric) (b : ℕ) → allowed (kind_of p b) ≡ true → Bits b
-    by WhiteIsZero b e = grey-only b e
-    by BlackIsZero b e = grey-only b e
+    by WhiteIsZero b e = grey_only b e
+    by BlackIsZero b e = grey_only b e
     by Rgb b e = inr (inr (eqb-true b 8 e))
 
 bits_few : (b : ℕ) → Bits b → Between 1 8 b

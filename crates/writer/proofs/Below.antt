@@ -41,16 +41,16 @@ module _ (p : Picture) (v : View) (t : shows p v ≡ true) where
     abbrev row : ℕ
     row = row_below v.turn v.area.height x y
 
-    pub viewed-inside : (viewed p v).at x y ≡ p.at (v.area.x + column) (v.area.y + row)
-    viewed-inside =
+    pub viewed_inside : (viewed p v).at x y ≡ p.at (v.area.x + column) (v.area.y + row)
+    viewed_inside =
         ap (λ (r : Picture). (turn_by v.turn r).at x y) view_crop
         ∙ framed_inside (view_width v) (view_height v) (λ x y. (rectangle p v.area).at (column_below v.turn v.area.width x y) (row_below v.turn v.area.height x y)) x y lx ly
         ∙ framed_inside v.area.width v.area.height (λ x y. p.at (v.area.x + x) (v.area.y + y)) column row
         (column_inside v.turn v.area.width v.area.height x y lx ly)
         (row_inside v.turn v.area.width v.area.height x y lx ly)
 
-    pub seen-inside : framed (view_width v) (view_height v) (viewed p v).at x y ≡ p.at (v.area.x + column) (v.area.y + row)
-    seen-inside = framed_inside (view_width v) (view_height v) (viewed p v).at x y lx ly ∙ viewed-inside
+    pub seen_inside : framed (view_width v) (view_height v) (viewed p v).at x y ≡ p.at (v.area.x + column) (v.area.y + row)
+    seen_inside = framed_inside (view_width v) (view_height v) (viewed p v).at x y lx ly ∙ viewed_inside
 
 -- the pixel of an answer that is not refused
 pub ok_value : (b : Bool) (x v : ℕ) (f : Fault) → ◌≡◌ {A = Result ℕ Fault} (cond b (Ok x) (Err f)) (Ok v) → v ≡ x

@@ -85,11 +85,11 @@ module _ (plan : Plan) (p : Picture) (v : View) (sound : Sound p) (seen : shows 
       let h = fits_parts p v.area (and_parts (fits p v.area) (between 1 8 v.turn) seen).0 in
       plan_proper plan (view_width v) (view_height v) p.kind sound.kinds
       (omega (arith, s.some, s.wide)) (omega (arith, t.wide, s.wide))
-      (side-some (swaps v.turn) h.0.0 h.0.1) (omega (arith, t.high, s.high))
+      (side_some (swaps v.turn) h.0.0 h.0.1) (omega (arith, t.high, s.high))
     where
-      side-some : (b : Bool) → 0 < v.area.width → 0 < v.area.height → 0 < cond b v.area.width v.area.height
-      side-some true w h = w
-      side-some false w h = h
+      side_some : (b : Bool) → 0 < v.area.width → 0 < v.area.height → 0 < cond b v.area.width v.area.height
+      side_some true w h = w
+      side_some false w h = h
 
   pub made_outlines : segments_in made ≤ 1024 → Outlines made p v
   made_outlines few = record { proper = made_proper; few = few; seen = seen; wide = refl; high = refl; kind = refl }

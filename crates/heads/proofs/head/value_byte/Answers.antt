@@ -49,17 +49,17 @@ returns-else-i-counts-2 c =
     let q = c.args.outline in
     let i = c.args.i in
     let behind : bits_at q + bits_size q.kind ≤ i = omega (arith, c.if-i-bits.false, c.bits_at-bits.ensures, c.bits_size.ensures) in
-    let no-offset : offsets_at q ≤ i → i < counts_at q → ⊥ = λ l m.
+    let no_offset : offsets_at q ≤ i → i < counts_at q → ⊥ = λ l m.
     ⊎_elim
     (λ w. omega (arith, w.1, c.counts_at-counts.ensures.value))
     (λ w. omega (arith, w, c.offsets_at-offsets.ensures.value))
     c.else-i-offsets.either in
-    let no-count : counts_at q ≤ i → i < counts_at q + longs_size (segments_in q) → ⊥ = λ l m.
+    let no_count : counts_at q ≤ i → i < counts_at q + longs_size (segments_in q) → ⊥ = λ l m.
     elim c.else-i-counts-2.branch [
       | else-i-counts-2-via-then-i-counts-2+else-i-counts-3 w ↦ omega (arith, w.if-i-counts-3.false, w.longs_size.ensures.value, c.counts_at-counts.ensures.value)
       | else-i-counts-2-via-else-i-counts-2 w ↦ omega (arith, w.if-i-counts-2.false, c.counts_at-counts.ensures.value)
     ] in
-    let here = ratio_left q i q.cut.tiled refl behind c.requires.within no-offset no-count in
+    let here = ratio_left q i q.cut.tiled refl behind c.requires.within no_offset no_count in
     c.number_byte-else-i-counts-2.ensures
     ∙ ap (λ a. byte_of q.endian 4 1 ((i - a) % 4)) c.ratios_at.ensures.value
     ∙ ratio_byte q c.args.place i q.cut.tiled refl here.0 here.1

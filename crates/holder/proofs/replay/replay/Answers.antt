@@ -4,7 +4,7 @@ use Rattle.drafts.specs.Steps.{Held, world}
 use Rattle.law.specs.Run.{Line as RunLine, LawfulRun, Stepped}
 use Rattle.law.proofs.Runs.{HeldTo, held_none, held_more, held_law}
 use Rattle.holder.specs.declared.replay.Line.{Line}
-use Rattle.holder.specs.Worlds.{worldOf}
+use Rattle.holder.specs.Worlds.{world_of}
 use Rattle.holder.specs.Lines.{line_of, lines_of}
 use Rattle.holder.proofs.Lines.{replayed_more, lines_more}
 use Rattle.holder.proofs.replay.replay.Goals as goal
@@ -25,8 +25,8 @@ loop-line-preserved g c =
     let line : Line = c.answer.new.line in
     let here : i < length ls = omega arith in
     let start : Mem = mem_of g.C.Store.seen g.C.Store.may g.C.Store.trail c.new-holder.result.store in
-    let v = worldOf g.C.Store.seen g.C.Store.may g.C.Store.trail c.loop-line.holder in
-    let w = worldOf g.C.Store.seen g.C.Store.may g.C.Store.trail c.answer.new.self in
+    let v = world_of g.C.Store.seen g.C.Store.may g.C.Store.trail c.loop-line.holder in
+    let w = world_of g.C.Store.seen g.C.Store.may g.C.Store.trail c.answer.new.self in
     let same : line.call ≡ (get_or ls i old).call = c.answer.ensures.call in
     let stepped : Stepped v (line_of (get_or ls i old) line) w = c.answer.ensures.stepped in (
       replayed_more sent ls i old line here same c.loop-line.invariant.0,

@@ -3,7 +3,7 @@ use Rattle.std.proofs.lemmas.Result.{err_from_is_err_and}
 use Rattle.entries.proofs.Looks.{looked_on}
 use Rattle.pages.specs.Pages.{laid_out, values_of}
 use Rattle.pages.specs.Segments.{filled}
-use Rattle.pages.proofs.Stages.{page_1, page-2, page-3, laid_offsets}
+use Rattle.pages.proofs.Stages.{page_1, page_2, page_3, laid_offsets}
 use Rattle.opening.proofs.page.check_page.Goals as goal
 
 pub returns-in_err-fields : goal.returns-in_err-fields
@@ -25,7 +25,7 @@ returns-in_err-layout g c =
     let b = sym (c.lay_out.ensures ∙ ap (laid_out d n fs) v) ∙ c.in_err-layout.was in
     let f = err_from_is_err_and c.from_residual-in_err-layout.result c.from_residual-in_err-layout.ensures.1 in
     record {
-      value = f.1 ∙ ap Err f.2 ∙ sym (page-2 bs n d fs a _ b);
+      value = f.1 ∙ ap Err f.2 ∙ sym (page_2 bs n d fs a _ b);
       looked = looked_on _ _ _ _ _ _ c.scan.ensures.looked c.read_values-values.ensures.looked;
     }
 
@@ -45,6 +45,6 @@ returns g c =
     let b = sym (c.lay_out.ensures ∙ ap (laid_out d n fs) v) ∙ c.in_ok-layout.was in
     let k = looked_on _ _ _ _ _ _ c.scan.ensures.looked c.read_values-values.ensures.looked in
     record {
-      value = c.check_segments.ensures.value ∙ ap (λ xs. filled xs l) k.same ∙ sym (page-3 bs n d fs a l b);
+      value = c.check_segments.ensures.value ∙ ap (λ xs. filled xs l) k.same ∙ sym (page_3 bs n d fs a l b);
       looked = looked_on _ _ _ _ _ _ k c.check_segments.ensures.looked;
     }

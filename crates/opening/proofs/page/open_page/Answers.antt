@@ -3,7 +3,7 @@ use Rattle.std.proofs.lemmas.Result.{err_from_is_err_and}
 use Rattle.reads.specs.Reads.{short_at}
 use Rattle.reads.proofs.Gains.{no_gain_then}
 use Rattle.pages.specs.Opening.{page_of}
-use Rattle.pages.proofs.Stages.{open_1, open-2, open-3, place_stands, entries_read}
+use Rattle.pages.proofs.Stages.{open_1, open_2, open_3, place_stands, entries_read}
 use Rattle.opening.proofs.page.open_page.Goals as goal
 
 pub returns-in_err-directories : goal.returns-in_err-directories
@@ -22,7 +22,7 @@ returns-in_err-place g c =
     let a = sym w.value ∙ c.in_ok-directories.was in
     let b = sym c.place.ensures ∙ c.in_err-place.was in
     let f = err_from_is_err_and c.from_residual-in_err-place.result c.from_residual-in_err-place.ensures.1 in
-    record { value = f.1 ∙ ap Err f.2 ∙ sym (open-2 bs c.args.page ds a _ b); same = w.same; lists = w.lists; trails = w.trails }
+    record { value = f.1 ∙ ap Err f.2 ∙ sym (open_2 bs c.args.page ds a _ b); same = w.same; lists = w.lists; trails = w.trails }
 
 pub check_page-requires : goal.check_page-requires
 check_page-requires g c =
@@ -55,7 +55,7 @@ returns g c =
           p.value
           ∙ ap (λ xs. page_of xs ds.count record { endian = ds.endian; page = page; place = place; entries = n }) (r.same ∙ w.same)
           ∙ ap (λ m. page_of bs ds.count record { endian = ds.endian; page = page; place = place; entries = m }) e.0
-          ∙ sym (open-3 bs page ds a place b);
+          ∙ sym (open_3 bs page ds a place b);
       same = p.looked.same ∙ r.same ∙ w.same;
       lists = no_gain_then (no_gain_then w.lists r.lists) p.looked.lists;
       trails = no_gain_then (no_gain_then w.trails r.trails) p.looked.trails;

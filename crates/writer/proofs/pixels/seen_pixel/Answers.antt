@@ -4,7 +4,7 @@ use Rattle.faults.specs.declared.fault.Check.TheVariants.{Outside}
 use Rattle.faults.specs.Faults.{bare}
 use Rattle.raster.specs.Picture.{within}
 use Rattle.plans.specs.Views.{view_width, view_height}
-use Rattle.writer.proofs.Below.{seen-inside, ok_value}
+use Rattle.writer.proofs.Below.{seen_inside, ok_value}
 use Rattle.writer.proofs.pixels.seen_pixel.Goals as goal
 
 pub returns : goal.returns
@@ -20,7 +20,7 @@ returns g c =
       value =
           ok_value (within p.width p.height column row) (p.at column row) c.in-Ok.v (bare Outside) (sym c.pixel.ensures.answer ∙ c.in-Ok.is)
           ∙ ap₂ p.at c.below-column.ensures.column c.below-column.ensures.row
-          ∙ sym (seen-inside p v c.requires c.args.x c.args.y lx ly);
+          ∙ sym (seen_inside p v c.requires c.args.x c.args.y lx ly);
       kept = c.pixel.ensures.kept;
       keeps = c.pixel.ensures.keeps;
     }

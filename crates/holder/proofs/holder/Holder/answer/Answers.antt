@@ -3,14 +3,14 @@ use Rattle.std.proofs.lemmas.List.{with_items_is}
 use Rattle.drafts.specs.Steps.{Sound, Step}
 use Rattle.law.specs.Book.{buffer_by}
 use Rattle.law.specs.Run.{roomed}
-use Rattle.holder.specs.Worlds.{worldOf, picture_by}
+use Rattle.holder.specs.Worlds.{world_of, picture_by}
 use Rattle.holder.proofs.holder.Holder.answer.Goals as goal
 
 pub returns : goal.returns
 returns g c =
     let e = c.make-line.ensures in
-    let v = worldOf g.C.Store.seen g.C.Store.may g.C.Store.trail c.args.self.now in
-    let w = worldOf g.C.Store.seen g.C.Store.may g.C.Store.trail c.make-line.new.self in
+    let v = world_of g.C.Store.seen g.C.Store.may g.C.Store.trail c.args.self.now in
+    let w = world_of g.C.Store.seen g.C.Store.may g.C.Store.trail c.make-line.new.self in
     let p = picture_by g.C.Store.seen c.args.self.now in
     let call = c.args.line.now.call in
     let old : List ℕ = vec_items c.args.line.now.buffer in
