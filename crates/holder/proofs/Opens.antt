@@ -1,5 +1,7 @@
 -- What `open`, `begin` and `keep` come to.
 use Rattle.std.proofs.Common.{◌≡◌, ℕ, true, false, cond, not, eqb, ltb, List, is_some, Some, None, Ok, Err, Option, Result, sym, refl, ap, ◌∙◌, true≢false}
+use Rattle.octets.specs.Sectors.{Lists}
+use Rattle.store.specs.Rules.{NoGain, Alone}
 use Rattle.faults.specs.declared.fault.Check.TheVariants.{Busy, Pages, View as ViewCheck, Many}
 use Rattle.faults.specs.declared.fault.Fault.{Fault}
 use Rattle.faults.specs.Faults.{bare, refused, then}
@@ -8,6 +10,7 @@ use Rattle.pages.specs.declared.layout.Layout.{Layout}
 use Rattle.pages.specs.Opening.{opened}
 use Rattle.stored.specs.Pixels.{picture_of}
 use Rattle.stored.specs.declared.page.Page.{Page}
+use Rattle.raster.specs.Picture.{pixel_of}
 use Rattle.raster.specs.Turns.{composed}
 use Rattle.places.specs.Places.{place_of}
 use Rattle.plans.specs.declared.plan.Plan.{Plan}
@@ -20,12 +23,29 @@ use Rattle.drafts.specs.declared.call.Call.TheVariants.{Open, Begin, Keep}
 use Rattle.drafts.specs.declared.call.Reply.TheVariants.{Done, Number}
 use Rattle.drafts.specs.Mem.{Mem, Lawful, Quiet, Settled}
 use Rattle.drafts.specs.Steps.{Held, held, world, Step, sized, shown_of, open_answer, open_held, spaced, sized_for, room_for, place_by, draft_at, begin_answer, begin_held, outline_by, sectors, width_of, height_of, stage_of, is_switched, allowed, ok_of, turn_of, kept_held}
-use Rattle.drafts.proofs.Stepping.{quiet_step, settled_step}
+use Rattle.drafts.proofs.Stepping.{quiet_step, settled_step, settled_quiet}
 use Rattle.holder.specs.Worlds.{layout_in}
 
 pub none_is : {A : Type 0} (o : Option A) → is_some o ≡ false → o ≡ None
 none_is None e = refl
 none_is (Some x) e = absurd (true≢false e)
+
+-- a pixel of the page shown
+pub pixel_in : (shown : Option Page) (p : Page) (bs : List ℕ) (x y : ℕ) (r : Result ℕ Fault) → shown ≡ Some p
+    → r ≡ pixel_of (shown_of (layout_in (Some p)) bs) x y → r ≡ pixel_of (shown_of (layout_in shown) bs) x y
+pixel_in shown p bs x y r e f = f ∙ ap (λ o. pixel_of (shown_of (layout_in o) bs) x y) (sym e)
+
+-- a page opened on a store that was settled just before
+pub opened_settled : (k n : Mem) (page : ℕ) (r : Result Page Fault) (bs : List ℕ) (may trail : Lists)
+    → then r (λ p. Ok p.layout) ≡ opened bs page → n.seen ≡ bs → NoGain may n.may → NoGain trail n.trail
+    → bs ≡ k.seen → Alone bs may → NoGain k.trail trail
+    → Settled k n × (then r (λ p. Ok p.layout) ≡ opened k.seen page)
+opened_settled k n page r bs may trail value same lists trails seen alone kept = (
+  settled_quiet {m = record { seen = bs; may = may; trail = trail }}
+      (record { seen = seen; may = alone; trail = kept })
+      (record { seen = same; may = lists; trail = trails }),
+  value ∙ ap (λ b. opened b page) seen,
+)
 
 -- a page that was opened, by its layout
 pub opened_ok : (r : Result Page Fault) (q : Result Layout Fault) (p : Page) → then r (λ p. Ok p.layout) ≡ q → r ≡ Ok p → q ≡ Ok p.layout
