@@ -4,7 +4,7 @@
 use cli::commands::run;
 use std::process::ExitCode;
 
-// What went wrong was printed where it was met, so nothing is added here but the status.
+// A refusal was printed where it was met, so nothing is added here but the status.
 fn main(rt: HostRuntime) -> ExitCode {
     match run(&rt) {
         Ok(()) => ExitCode::SUCCESS,

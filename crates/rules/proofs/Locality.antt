@@ -1,5 +1,5 @@
 -- Opening a page looks at the header and the extents alone.
-use Rattle.std.proofs.Common.{◌≡◌, ℕ, ◌+◌, ◌*◌, ◌<◌, List, get_or, Ok, sym, ap, ◌∙◌, subst, arith}
+use Rattle.std.proofs.Common.{◌≡◌, ℕ, ◌+◌, ◌*◌, ◌<◌, List, length, get_or, Ok, sym, ap, ◌∙◌, subst, arith}
 use Rattle.octets.specs.Numbers.{short}
 use Rattle.reads.specs.Agree.{Agree}
 use Rattle.reads.proofs.Agreeing.{short_agrees, agree_in}
@@ -10,6 +10,7 @@ use Rattle.links.proofs.Local.{chain_local}
 use Rattle.entries.specs.declared.entry.Directory.{Directory}
 use Rattle.entries.specs.Entries.{directory_at}
 use Rattle.pages.specs.declared.layout.Layout.{Layout}
+use Rattle.pages.specs.Extents.{extents, AgreeOn}
 use Rattle.pages.specs.Opening.{page_of, page_at, HasPage}
 use Rattle.pages.proofs.Stages.{open_3}
 use Rattle.rules.specs.Local.{PageLocal, PageStands, OpeningLocal}
@@ -33,14 +34,19 @@ has_entries bs l h =
     let d : Directory = directory_at l.directory.endian bs l.directory.page l.directory.place in
     ap (λ x. x.entries) (page_knows bs l.directories d l h).0
 
-pub page_local : PageLocal
-page_local bs cs l h len agree =
+page_stays : (bs cs : List ℕ) (l : Layout) → HasPage bs l → length cs ≡ length bs → AgreeOn (extents bs l) bs cs
+    → HasPage cs l × (extents cs l ≡ extents bs l)
+page_stays bs cs l h len agree =
     let d = l.directory in
     let p = has_paged bs l h in
     let a = agree_in bs cs d.place (6 + 12 * d.entries) d.place 2 (omega arith) (omega arith) (directory_same bs cs l p len agree) in
     let n : short d.endian cs d.place ≡ d.entries = sym (has_entries bs l h ∙ short_agrees d.endian bs cs d.place a) in
     let same : directory_at d.endian cs d.page d.place ≡ d = λ i. record { endian = d.endian; page = d.page; place = d.place; entries = n i } in
     (ap (page_of cs l.directories) same ∙ same_page bs cs l p len agree, same_extents bs cs l p len agree)
+
+-- the premises stand in one place alone, so that the theorem with one fewer is refused for it
+pub page_local : PageLocal
+page_local bs cs l h = page_stays bs cs l h
 
 pub page_stands : PageStands
 page_stands bs page l e =
