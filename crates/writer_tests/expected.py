@@ -165,6 +165,8 @@ def text(data):
 
 def main():
     lines = ['// Drafts by the rules of the format, made by expected.py and not by this code.']
+    lines += ['', '// A sector of a draft: its length, its FNV-1a hash, and how many pixels it asks for.', '#[derive(Clone, Copy)]']
+    lines += ['pub struct Sector {', '    pub length: usize,', '    pub hash: u64,', '    pub asked: u32,', '}']
     for name, (order, place, rows, photometric, bits, layout) in DRAFTS.items():
         block = draft(order, place, rows, photometric, bits, **layout)
         if len(block) <= 512:
@@ -172,12 +174,9 @@ def main():
         else:
             parts = sectors(block)
             head = len(block) - sum(map(len, segments(rows, bits, layout.get('tile'), layout.get('strip'))))
-            n = len(parts)
-            lines += ['', '// The length of each sector, its FNV-1a hash, and how many pixels it asks for.']
-            lines += ['pub const %s_LENGTHS: [usize; %d] = [%s];' % (name.upper(), n, ', '.join(str(len(p)) for p in parts))]
-            lines += ['', '#[rattlefmt::skip]', 'pub const %s_HASHES: [u64; %d] = [' % (name.upper(), n)]
-            lines += ['    0x%016x,' % fnv(p) for p in parts] + ['];']
-            lines += ['', 'pub const %s_ASKED: [u32; %d] = [%s];' % (name.upper(), n, ', '.join(map(str, asked(rows, layout['tile'], head, len(block)))))]
+            asks = asked(rows, layout['tile'], head, len(block))
+            lines += ['', '#[rattlefmt::skip]', 'pub const %s: [Sector; %d] = [' % (name.upper(), len(parts))]
+            lines += ['    Sector { length: %d, hash: 0x%016x, asked: %d },' % (len(p), fnv(p), n) for p, n in zip(parts, asks)] + ['];']
     with open(os.path.join(os.path.dirname(os.path.abspath(__file__)), 'src', 'expected.rt'), 'w') as f:
         f.write('\n'.join(lines) + '\n')
 

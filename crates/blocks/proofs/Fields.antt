@@ -12,6 +12,9 @@ use Rattle.pages.specs.Geometry.{samples_of}
 use Rattle.entries.specs.declared.entry.Shape.TheVariants.{Bits as BitsShape}
 use Rattle.entries.specs.Entries.{shape_of, fits}
 use Rattle.stored.specs.Sane.{allowed_bits}
+use Rattle.pages.specs.declared.layout.SegmentKind.{SegmentKind}
+use Rattle.pages.specs.declared.layout.SegmentKind.TheVariants.{Strip, Tile}
+use Rattle.pages.specs.Tags.{are_tiles}
 use Rattle.plans.specs.declared.outline.Outline.{Outline}
 use Rattle.plans.specs.Outlines.{Proper, segments_in, segment_size, bits_size, longs_size, head_size}
 use Rattle.plans.specs.Directories.{shorts, longs, rational, outer_size, directory_bytes}
@@ -100,19 +103,19 @@ good_table tag n f t some few h shape =
     good_longs tag (tabulate n f) t (omega (arith, length-map-range_with_len f 0 n)) (table_fits n 4294967296 f h)
     (shape (length (tabulate n f)) (omega (arith, length-map-range_with_len f 0 n)))
 
-pub sized_fields : (t : Bool) (q : Outline) (start : ℕ) → SizedAll (fields_by t q start)
-sized_fields false q start = omega arith
-sized_fields true q start = omega arith
+pub sized_fields : (t : SegmentKind) (q : Outline) (start : ℕ) → SizedAll (fields_by t q start)
+sized_fields Strip q start = omega arith
+sized_fields Tile q start = omega arith
 
-pub ascending_fields : (t : Bool) (q : Outline) (start : ℕ) → Ascending 0 (fields_by t q start)
-ascending_fields false q start = omega arith
-ascending_fields true q start = omega arith
+pub ascending_fields : (t : SegmentKind) (q : Outline) (start : ℕ) → Ascending 0 (fields_by t q start)
+ascending_fields Strip q start = omega arith
+ascending_fields Tile q start = omega arith
 
-pub count_fields : (t : Bool) (q : Outline) (start : ℕ) → length (fields_by t q start) ≡ cond t 13 12
-count_fields false q start = refl
-count_fields true q start = refl
+pub count_fields : (t : SegmentKind) (q : Outline) (start : ℕ) → length (fields_by t q start) ≡ cond (are_tiles t) 13 12
+count_fields Strip q start = refl
+count_fields Tile q start = refl
 
-pub good_fields : (t : Bool) (q : Outline) (start : ℕ) → Proper q → 0 < segments_in q → segments_in q ≤ 1024
+pub good_fields : (t : SegmentKind) (q : Outline) (start : ℕ) → Proper q → 0 < segments_in q → segments_in q ≤ 1024
     → ((k : ℕ) → k < segments_in q → start + k * segment_size q 0 < 4294967296)
     → ((k : ℕ) → k < segments_in q → segment_size q k < 4294967296)
     → GoodAll (fields_by t q start)
@@ -136,8 +139,8 @@ good_fields t q start proper some few offsets counts = by t
     high : q.cut.high < 4294967296
     high = omega (arith, (segment_sides q proper).high)
 
-    by : (t : Bool) → GoodAll (fields_by t q start)
-    by false = (
+    by : (t : SegmentKind) → GoodAll (fields_by t q start)
+    by Strip = (
       width,
       (
         height,
@@ -171,7 +174,7 @@ good_fields t q start proper some few offsets counts = by t
         ),
       ),
     )
-    by true = (
+    by Tile = (
       width,
       (
         height,
@@ -226,14 +229,14 @@ outer_table tag n f = ap (λ n. cond (leb (4 * n) 4) 0 (4 * n)) (length-map-rang
     go : (n : ℕ) → cond (leb (4 * n) 4) 0 (4 * n) ≡ cond (leb n 1) 0 (4 * n)
     go n = grind (arith, nat_tests)
 
-pub outers_fields : (t : Bool) (q : Outline) (start : ℕ) → outers (fields_by t q start) ≡ bits_size q.kind + (16 + 2 * longs_size (segments_in q))
-outers_fields false q start =
+pub outers_fields : (t : SegmentKind) (q : Outline) (start : ℕ) → outers (fields_by t q start) ≡ bits_size q.kind + (16 + 2 * longs_size (segments_in q))
+outers_fields Strip q start =
     omega (arith, outer_bits q, outer_table 273 (segments_in q) (λ k. start + k * segment_size q 0), outer_table 279 (segments_in q) (segment_size q))
-outers_fields true q start =
+outers_fields Tile q start =
     omega (arith, outer_bits q, outer_table 324 (segments_in q) (λ k. start + k * segment_size q 0), outer_table 325 (segments_in q) (segment_size q))
 
 pub head_length : (q : Outline) (place : ℕ) → length (directory_bytes q.endian place (fields_in q place)) ≡ head_size q
 head_length q place =
-    let t : Bool = q.cut.tiled in
+    let t : SegmentKind = q.cut.kind in
     let start : ℕ = place + head_size q in
     omega (arith, length_directory q.endian place (fields_by t q start) (sized_fields t q start), outers_fields t q start, count_fields t q start)

@@ -1,9 +1,10 @@
 -- Sheets worked out by hand. Assumes nothing.
-use Rattle.std.specs.Prelude.{◌≡◌, ℕ, ◌+◌, ◌-◌, ◌*◌, ◌/◌, true, false, cond, List, [], ◌∷◌, length, take, drop, ◌==◌}
+use Rattle.std.specs.Prelude.{◌≡◌, ℕ, ◌+◌, ◌-◌, ◌*◌, ◌/◌, cond, List, [], ◌∷◌, length, take, drop, ◌==◌}
 use Rattle.octets.specs.declared.endian.Endian.TheVariants.{Little, Big}
 use Rattle.octets.specs.Rows.{ceil, packed_size, packed_row}
 use Rattle.raster.specs.declared.grid.Photometric.TheVariants.{BlackIsZero, Rgb}
 use Rattle.raster.specs.Picture.{Picture, framed, kind_of}
+use Rattle.plans.specs.declared.pieces.Pieces.TheVariants.{Strips, Tiles}
 use Rattle.plans.specs.Outlines.{cut_by, outline_of, head_size, block_size}
 use Rattle.plans.specs.Directories.{shorts, last_bytes}
 use Rattle.plans.specs.Blocks.{segment, block_of, header}
@@ -58,21 +59,21 @@ pub record KnownSheets : Type 0 where
   pub short_little : last_bytes Little 0 (shorts 259 (5 ∷ [])) ≡ 5 ∷ 0 ∷ 0 ∷ 0 ∷ []
   pub header_little : header Little 512 ≡ 0x49 ∷ 0x49 ∷ 42 ∷ 0 ∷ 0 ∷ 2 ∷ 0 ∷ 0 ∷ []
   pub header_big : header Big 512 ≡ 0x4D ∷ 0x4D ∷ 0 ∷ 42 ∷ 0 ∷ 0 ∷ 2 ∷ 0 ∷ []
-  pub grey_block_lem : block_of Little false 0 2 grey 512 ≡ grey_block
+  pub grey_block_lem : block_of Little (Strips 2) grey 512 ≡ grey_block
   pub grey_size : length grey_block ≡ 172
   -- the strip begins after the directory of 150 bytes and two RATIONALs
-  pub grey_start : 512 + head_size (outline_of Little false 0 2 grey) ≡ 678
+  pub grey_start : 512 + head_size (outline_of Little (Strips 2) grey) ≡ 678
   -- more rows than there are count as the height
-  pub rows_cut : (cut_by false 0 5 3 2).high ≡ 2
+  pub rows_cut : (cut_by (Strips 5) 3 2).high ≡ 2
   -- the red byte first
-  pub dot_strip : segment (outline_of Little false 0 1 dot) dot.at 0 ≡ 1 ∷ 2 ∷ 3 ∷ []
+  pub dot_strip : segment (outline_of Little (Strips 1) dot) dot.at 0 ≡ 1 ∷ 2 ∷ 3 ∷ []
   -- tile 1 stands to the right of tile 0, tile 2 below it, and the edges are padded with 0
-  pub tile_right : take 3 (segment (outline_of Little true 16 16 quarters) quarters.at 1) ≡ 2 ∷ 0 ∷ 0 ∷ []
-  pub tile_below : take 3 (segment (outline_of Little true 16 16 quarters) quarters.at 2) ≡ 3 ∷ 3 ∷ 3 ∷ []
+  pub tile_right : take 3 (segment (outline_of Little (Tiles 16 16) quarters) quarters.at 1) ≡ 2 ∷ 0 ∷ 0 ∷ []
+  pub tile_below : take 3 (segment (outline_of Little (Tiles 16 16) quarters) quarters.at 2) ≡ 3 ∷ 3 ∷ 3 ∷ []
   -- 17 rows in strips of 16: the last strip has one
-  pub short_strip : length (segment (outline_of Little false 0 16 quarters) quarters.at 1) ≡ 17
+  pub short_strip : length (segment (outline_of Little (Strips 16) quarters) quarters.at 1) ≡ 17
   -- after the directory the bits, then the resolutions
-  pub rgb_values : take 14 (drop 162 (block_of Big true 16 16 black 512)) ≡ 0 ∷ 8 ∷ 0 ∷ 8 ∷ 0 ∷ 8 ∷ 0 ∷ 0 ∷ 0 ∷ 1 ∷ 0 ∷ 0 ∷ 0 ∷ 1 ∷ []
-  pub rgb_size : length (block_of Big true 16 16 black 512) ≡ 3288
-  pub rgb_sectors : ceil (block_size (outline_of Big true 16 16 black)) 512 ≡ 7
-  pub rgb_last : block_size (outline_of Big true 16 16 black) - 6 * 512 ≡ 216
+  pub rgb_values : take 14 (drop 162 (block_of Big (Tiles 16 16) black 512)) ≡ 0 ∷ 8 ∷ 0 ∷ 8 ∷ 0 ∷ 8 ∷ 0 ∷ 0 ∷ 0 ∷ 1 ∷ 0 ∷ 0 ∷ 0 ∷ 1 ∷ []
+  pub rgb_size : length (block_of Big (Tiles 16 16) black 512) ≡ 3288
+  pub rgb_sectors : ceil (block_size (outline_of Big (Tiles 16 16) black)) 512 ≡ 7
+  pub rgb_last : block_size (outline_of Big (Tiles 16 16) black) - 6 * 512 ≡ 216

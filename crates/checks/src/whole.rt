@@ -1,101 +1,28 @@
 // The checks of a whole page, by its tags and their values.
-ghost use Rattle.std.specs.Prelude.{◌≡◌};
-ghost use Rattle.pages.specs.Pages.{fault_in, tiled, found, offsets_tag, counts_tag, listing, tile_listing, complete, formatted, grey, rgb, interpreted, sampled, page_side, tile_side, tile_cut, strip_cut, cut_of, tallied, laid_out};
+ghost use Rattle.std.specs.Prelude.{◌≡◌, not, Ok};
+ghost use Rattle.faults.specs.Faults.{refused};
+ghost use Rattle.pages.specs.Pages.{fault_in, segment_kind, found, listing, tile_listing, complete, formatted, grey, rgb, sampled, tile_cut, strip_cut, cut_of, tallied, laid_out};
 
 use entries::entry::Directory;
 use entries::fields::{Fields, Numbers, Table};
 use faults::fault::{Check, Fault};
+use pages::geometry::{is_page_side, is_tile_side};
 use pages::layout::*;
 use raster::grid::{Kind, Photometric};
 
-// A fault of a page names its directory's place.
-fn fault_in(check: Check, directory: Directory, tag: u16) -> Fault
-    ensures { result ≡ fault_in check directory tag }
+// What a page is cut into: it is tiled if it has any of the tags of tiles.
+fn segment_kind(fields: Fields) -> SegmentKind
+    ensures { result ≡ segment_kind fields }
 {
-    check.fault_at(directory.page, tag, directory.place)
-}
-
-// Whether a page has any of the tags of tiles.
-fn is_tiled(fields: Fields) -> bool
-    ensures { result ≡ tiled fields }
-{
-    fields.across.is_some()
+    if fields.across.is_some()
         || fields.down.is_some()
         || fields.tiles.offsets.is_some()
         || fields.tiles.counts.is_some()
-}
-
-// A tag that a page must have.
-fn find(directory: Directory, tag: u16, field: Option<Numbers>) -> Result<Numbers, Fault>
-    ensures { result ≡ found directory tag field }
-{
-    match field {
-        Some(numbers) => Ok(numbers),
-        None => Err(fault_in(Check::Missing, directory, tag)),
-    }
-}
-
-// The tags of the offsets and of the byte counts.
-pub fn offsets_tag(tiled: bool) -> u16
-    ensures { result ≡ offsets_tag tiled }
-{
-    if tiled { 324 } else { 273 }
-}
-
-pub fn counts_tag(tiled: bool) -> u16
-    ensures { result ≡ counts_tag tiled }
-{
-    if tiled { 325 } else { 279 }
-}
-
-// The offsets and byte counts of strips or of tiles.
-fn find_listing(directory: Directory, tiled: bool, table: Table) -> Result<Listing, Fault>
-    ensures { result ≡ listing directory tiled table }
-{
-    let offsets = find(directory, offsets_tag(tiled), table.offsets)?;
-    let counts = find(directory, counts_tag(tiled), table.counts)?;
-    Ok(Listing { offsets, counts })
-}
-
-fn find_tiles(directory: Directory, fields: Fields) -> Result<Listing, Fault>
-    ensures { result ≡ tile_listing directory fields }
-{
-    find(directory, 322, fields.across)?;
-    find(directory, 323, fields.down)?;
-    find_listing(directory, true, fields.tiles)
-}
-
-// The offsets and byte counts of a page that lacks no tag.
-fn check_complete(directory: Directory, fields: Fields) -> Result<Listing, Fault>
-    ensures { result ≡ complete directory fields }
-{
-    find(directory, 256, fields.width)?;
-    find(directory, 257, fields.height)?;
-    find(directory, 262, fields.photometric)?;
-    if is_tiled(fields) {
-        find_tiles(directory, fields)
+    {
+        SegmentKind::Tile
     } else {
-        find_listing(directory, false, fields.strips)
+        SegmentKind::Strip
     }
-}
-
-// The orientation of a page whose bytes are laid out as they must be.
-fn check_format(directory: Directory, format: Format) -> Result<u8, Fault>
-    ensures { result ≡ formatted directory format }
-{
-    if format.compression != 1 {
-        return Err(fault_in(Check::Kind, directory, 259));
-    }
-    if format.fill != 1 {
-        return Err(fault_in(Check::Kind, directory, 266));
-    }
-    if format.planes != 1 {
-        return Err(fault_in(Check::Kind, directory, 284));
-    }
-    if format.orientation < 1 || format.orientation > 8 {
-        return Err(fault_in(Check::Kind, directory, 274));
-    }
-    Ok(format.orientation as u8)
 }
 
 // Whether the pixels are grey: one sample of 1, 4 or 8 bits.
@@ -112,118 +39,170 @@ fn is_rgb(s: Sampling) -> bool
     s.photometric == 2 && s.samples == 3 && s.first == 8 && s.second == 8 && s.third == 8
 }
 
-// The photometric interpretation of an allowed kind, by its number.
-fn interpret(photometric: u32) -> Photometric
-    ensures { result ≡ interpreted photometric }
-{
-    match photometric {
-        0 => Photometric::WhiteIsZero,
-        1 => Photometric::BlackIsZero,
-        _ => Photometric::Rgb,
-    }
+// The checks of the page with a directory.
+#[derive(Clone, Copy)]
+struct PageCheck {
+    directory: Directory,
 }
 
-// The kind of a page, if it is allowed.
-fn check_sampling(directory: Directory, sampling: Sampling) -> Result<Kind, Fault>
-    ensures { result ≡ sampled directory sampling }
-{
-    if sampling.samples != 1 && sampling.samples != 3 {
-        return Err(fault_in(Check::Kind, directory, 277));
+impl PageCheck {
+    // A fault of a page names its directory's place.
+    fn fault(self, check: Check, tag: u16) -> Fault
+        ensures { result ≡ fault_in check self.directory tag }
+    {
+        check.fault_at(self.directory.page, tag, self.directory.place)
     }
-    if sampling.given != sampling.samples {
-        return Err(fault_in(Check::Kind, directory, 258));
-    }
-    if !is_grey(sampling) && !is_rgb(sampling) {
-        return Err(fault_in(Check::Kind, directory, 262));
-    }
-    Ok(Kind {
-        photometric: interpret(sampling.photometric),
-        bits: sampling.first as u16,
-    })
-}
 
-// Whether a page may have such a side.
-fn is_page_side(n: u32) -> bool
-    ensures { result ≡ page_side n }
-{
-    n >= 1 && n <= 16384
-}
+    // A fault of a tag, unless its values are as they must be.
+    fn expect(self, holds: bool, check: Check, tag: u16) -> Result<(), Fault>
+        ensures { result ≡ refused (not holds) (fault_in check self.directory tag) (Ok tt) }
+    {
+        if holds {
+            Ok(())
+        } else {
+            Err(self.fault(check, tag))
+        }
+    }
 
-// Whether a tile may have such a side.
-fn is_tile_side(n: u32) -> bool
-    ensures { result ≡ tile_side n }
-{
-    n >= 16 && n <= 16384 && n % 16 == 0
-}
+    // A tag that a page must have.
+    fn find(self, tag: u16, field: Option<Numbers>) -> Result<Numbers, Fault>
+        ensures { result ≡ found self.directory tag field }
+    {
+        field.ok_or(self.fault(Check::Missing, tag))
+    }
 
-// The cut into tiles.
-fn cut_tiles(directory: Directory, sides: Sides) -> Result<Cut, Fault>
-    ensures { result ≡ tile_cut directory sides }
-{
-    if !is_tile_side(sides.across) {
-        return Err(fault_in(Check::Size, directory, 322));
+    // The offsets and byte counts of strips or of tiles.
+    #[tactic(auto, unfolding(pages::specs::Pages::listing))]
+    fn find_listing(self, kind: SegmentKind, table: Table) -> Result<Listing, Fault>
+        ensures { result ≡ listing self.directory kind table }
+    {
+        let tags = kind.tags();
+        let offsets = self.find(tags.offsets, table.offsets)?;
+        let counts = self.find(tags.counts, table.counts)?;
+        Ok(Listing { offsets, counts })
     }
-    if !is_tile_side(sides.down) {
-        return Err(fault_in(Check::Size, directory, 323));
-    }
-    Ok(Cut {
-        tiled: true,
-        wide: sides.across,
-        high: sides.down,
-    })
-}
 
-// The cut into strips.
-fn cut_strips(directory: Directory, sides: Sides) -> Result<Cut, Fault>
-    ensures { result ≡ strip_cut directory sides }
-{
-    if sides.rows == 0 {
-        return Err(fault_in(Check::Size, directory, 278));
+    #[tactic(auto, unfolding(pages::specs::Pages::tile_listing))]
+    fn find_tiles(self, fields: Fields) -> Result<Listing, Fault>
+        ensures { result ≡ tile_listing self.directory fields }
+    {
+        self.find(322, fields.across)?;
+        self.find(323, fields.down)?;
+        self.find_listing(SegmentKind::Tile, fields.tiles)
     }
-    Ok(Cut {
-        tiled: false,
-        wide: sides.width,
-        high: sides.rows.min(sides.height),
-    })
-}
 
-// How a page is cut whose sides are within limits.
-fn check_sides(directory: Directory, tiled: bool, sides: Sides) -> Result<Cut, Fault>
-    ensures { result ≡ cut_of directory tiled sides }
-{
-    if !is_page_side(sides.width) {
-        return Err(fault_in(Check::Size, directory, 256));
+    // The offsets and byte counts of a page that lacks no tag.
+    #[tactic(auto, unfolding(pages::specs::Pages::complete))]
+    fn check_complete(self, fields: Fields) -> Result<Listing, Fault>
+        ensures { result ≡ complete self.directory fields }
+    {
+        self.find(256, fields.width)?;
+        self.find(257, fields.height)?;
+        self.find(262, fields.photometric)?;
+        match segment_kind(fields) {
+            SegmentKind::Strip => self.find_listing(SegmentKind::Strip, fields.strips),
+            SegmentKind::Tile => self.find_tiles(fields),
+        }
     }
-    if !is_page_side(sides.height) {
-        return Err(fault_in(Check::Size, directory, 257));
+
+    // The orientation of a page whose bytes are laid out as they must be.
+    #[tactic(auto, using(std::proofs::lemmas::Bool::Decides::nat_tests), unfolding(pages::specs::Pages::formatted))]
+    fn check_format(self, format: Format) -> Result<u8, Fault>
+        ensures { result ≡ formatted self.directory format }
+    {
+        self.expect(format.compression == 1, Check::Kind, 259)?;
+        self.expect(format.fill == 1, Check::Kind, 266)?;
+        self.expect(format.planes == 1, Check::Kind, 284)?;
+        self.expect((1..=8).contains(&format.orientation), Check::Kind, 274)?;
+        Ok(format.orientation as u8)
     }
-    if tiled {
-        cut_tiles(directory, sides)
-    } else {
-        cut_strips(directory, sides)
+
+    // The kind of a page, if it is allowed.
+    #[tactic(auto, using(std::proofs::lemmas::Bool::Decides::nat_tests), unfolding(pages::specs::Pages::sampled))]
+    fn check_sampling(self, sampling: Sampling) -> Result<Kind, Fault>
+        ensures { result ≡ sampled self.directory sampling }
+    {
+        let allowed = is_grey(sampling) || is_rgb(sampling);
+        self.expect(
+            sampling.samples == 1 || sampling.samples == 3,
+            Check::Kind,
+            277,
+        )?;
+        self.expect(sampling.given == sampling.samples, Check::Kind, 258)?;
+        self.expect(allowed, Check::Kind, 262)?;
+        Ok(Kind {
+            photometric: Photometric::try_from(sampling.photometric).unwrap_or(Photometric::Rgb),
+            bits: sampling.first as u16,
+        })
+    }
+
+    // The cut into tiles.
+    #[tactic(auto, using(std::proofs::lemmas::Bool::Decides::nat_tests), unfolding(pages::specs::Pages::tile_cut))]
+    fn cut_tiles(self, sides: Sides) -> Result<Cut, Fault>
+        ensures { result ≡ tile_cut self.directory sides }
+    {
+        self.expect(is_tile_side(sides.across), Check::Size, 322)?;
+        self.expect(is_tile_side(sides.down), Check::Size, 323)?;
+        Ok(Cut {
+            kind: SegmentKind::Tile,
+            wide: sides.across,
+            high: sides.down,
+        })
+    }
+
+    // The cut into strips.
+    #[tactic(auto, using(std::proofs::lemmas::Bool::Decides::nat_tests), unfolding(pages::specs::Pages::strip_cut))]
+    fn cut_strips(self, sides: Sides) -> Result<Cut, Fault>
+        ensures { result ≡ strip_cut self.directory sides }
+    {
+        self.expect(sides.rows != 0, Check::Size, 278)?;
+        Ok(Cut {
+            kind: SegmentKind::Strip,
+            wide: sides.width,
+            high: sides.rows.min(sides.height),
+        })
+    }
+
+    // How a page is cut whose sides are within limits.
+    #[tactic(auto, using(std::proofs::lemmas::Bool::Decides::nat_tests), unfolding(pages::specs::Pages::cut_of))]
+    fn check_sides(self, kind: SegmentKind, sides: Sides) -> Result<Cut, Fault>
+        ensures { result ≡ cut_of self.directory kind sides }
+    {
+        self.expect(is_page_side(sides.width), Check::Size, 256)?;
+        self.expect(is_page_side(sides.height), Check::Size, 257)?;
+        match kind {
+            SegmentKind::Strip => self.cut_strips(sides),
+            SegmentKind::Tile => self.cut_tiles(sides),
+        }
     }
 }
 
 // A page with one offset and one byte count a segment, and at most 1,024 segments.
+#[tactic(auto, using(std::proofs::lemmas::Bool::Decides::nat_tests), unfolding(pages::specs::Pages::tallied))]
 fn check_tally(layout: Layout) -> Result<Layout, Fault>
     ensures { result ≡ tallied layout }
 {
+    let page = PageCheck {
+        directory: layout.directory,
+    };
     let segments = layout.segments();
-    let offsets = offsets_tag(layout.cut.tiled);
-    if layout.offsets.count as u64 != segments {
-        return Err(fault_in(Check::Tally, layout.directory, offsets));
-    }
-    if layout.counts.count as u64 != segments {
-        let counts = counts_tag(layout.cut.tiled);
-        return Err(fault_in(Check::Tally, layout.directory, counts));
-    }
-    if segments > 1024 {
-        return Err(fault_in(Check::Tally, layout.directory, offsets));
-    }
+    let tags = layout.cut.kind.tags();
+    page.expect(
+        layout.offsets.count as u64 == segments,
+        Check::Tally,
+        tags.offsets,
+    )?;
+    page.expect(
+        layout.counts.count as u64 == segments,
+        Check::Tally,
+        tags.counts,
+    )?;
+    page.expect(segments <= 1024, Check::Tally, tags.offsets)?;
     Ok(layout)
 }
 
 // The layout of a page that passes the checks of the whole page, in a file with so many directories.
+#[tactic(auto, unfolding(pages::specs::Pages::laid_out))]
 pub fn lay_out(
     directory: Directory,
     directories: u32,
@@ -232,10 +211,11 @@ pub fn lay_out(
 ) -> Result<Layout, Fault>
     ensures { result ≡ laid_out directory directories fields values }
 {
-    let listing = check_complete(directory, fields)?;
-    let orientation = check_format(directory, values.format)?;
-    let kind = check_sampling(directory, values.sampling)?;
-    let cut = check_sides(directory, is_tiled(fields), values.sides)?;
+    let page = PageCheck { directory };
+    let listing = page.check_complete(fields)?;
+    let orientation = page.check_format(values.format)?;
+    let kind = page.check_sampling(values.sampling)?;
+    let cut = page.check_sides(segment_kind(fields), values.sides)?;
     check_tally(Layout {
         directory,
         directories,

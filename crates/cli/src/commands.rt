@@ -5,9 +5,7 @@ use crate::info::print_info;
 use crate::relay::relay;
 use crate::replay::print_script;
 use crate::window::write_window;
-use crate::wishes::{number, plan_of, plan_words, wish_of};
-use plans::plan::Plan;
-use raster::grid::Area;
+use crate::wishes::{area_by, number_by, wish_of};
 use std::env;
 
 // The sheet that a call with no words looks for in the current folder.
@@ -41,81 +39,37 @@ fn replay(rt: &HostRuntime, name: &str) -> Result<(), Failed> {
     print_script(rt, text.as_str())
 }
 
-fn window(rt: &HostRuntime, words: &[String]) -> Result<(), Failed> {
-    if words.len() != 8 {
-        return wrong_call(rt);
+// Lays a page out anew as some words wish.
+fn relay_by(rt: &HostRuntime, name: &str, out: &str, words: &[&str]) -> Result<(), Failed> {
+    match wish_of(rt, words) {
+        Err(Failed::Call) => wrong_call(rt),
+        wish => relay(rt, name, out, wish?),
     }
-    let page = number(rt, words[2].as_str())?;
-    let area = Area {
-        x: number(rt, words[3].as_str())?,
-        y: number(rt, words[4].as_str())?,
-        width: number(rt, words[5].as_str())?,
-        height: number(rt, words[6].as_str())?,
-    };
-    write_window(rt, words[1].as_str(), page, area, words[7].as_str())
-}
-
-// Lays a page out anew by a plan, as the words after it wish.
-fn lay_out_by(
-    rt: &HostRuntime,
-    name: &str,
-    out: &str,
-    plan: Plan,
-    words: &[String],
-) -> Result<(), Failed> {
-    let wish = wish_of(rt, words)?;
-    relay(rt, name, out, plan, wish)
-}
-
-fn lay_out(rt: &HostRuntime, words: &[String]) -> Result<(), Failed> {
-    if words.len() < 6 {
-        return Err(Failed::Call);
-    }
-    let rest = &words[3..];
-    let count = plan_words(rest);
-    if rest.len() < count {
-        return Err(Failed::Call);
-    }
-    let plan = plan_of(rt, rest)?;
-    lay_out_by(
-        rt,
-        words[1].as_str(),
-        words[2].as_str(),
-        plan,
-        &rest[count..],
-    )
 }
 
 // Runs the command that some words name.
-fn start(rt: &HostRuntime, words: &[String]) -> Result<(), Failed> {
-    if words.len() == 0 {
-        return info(rt, SHEET);
+fn start(rt: &HostRuntime, words: &[&str]) -> Result<(), Failed> {
+    match words {
+        [] => info(rt, SHEET),
+        ["--help" | "help", ..] => {
+            println!(rt; "{USAGE}")?;
+            Ok(())
+        }
+        ["info", name] => info(rt, name),
+        ["window", name, page, x, y, width, height, out] => {
+            let page = number_by(rt, page)?;
+            let area = area_by(rt, x, y, width, height)?;
+            write_window(rt, name, page, area, out)
+        }
+        ["relay", name, out, wish @ ..] => relay_by(rt, name, out, wish),
+        ["replay", name] => replay(rt, name),
+        _ => wrong_call(rt),
     }
-    let name = words[0].as_str();
-    if name == "--help" || name == "help" {
-        println!(rt; "{USAGE}")?;
-        return Ok(());
-    }
-    if name == "window" {
-        return window(rt, words);
-    }
-    if name == "relay" {
-        return match lay_out(rt, words) {
-            Err(Failed::Call) => wrong_call(rt),
-            done => done,
-        };
-    }
-    if words.len() == 2 && name == "info" {
-        return info(rt, words[1].as_str());
-    }
-    if words.len() == 2 && name == "replay" {
-        return replay(rt, words[1].as_str());
-    }
-    wrong_call(rt)
 }
 
 // Runs the command that the arguments name.
 pub fn run(rt: &HostRuntime) -> Result<(), Failed> {
     let words: Vec<String> = env::args(rt)?.skip(1).collect(rt.alloc())?;
+    let words: Vec<&str> = words.iter().map(|word| word.as_str()).collect(rt.alloc())?;
     start(rt, words.as_slice())
 }

@@ -1,11 +1,11 @@
 // Files that are read and written whole.
 use crate::failed::Failed;
-use std::fs;
+use std::{fs, io};
 
-// A file's bytes; a file that cannot be read is named.
-pub fn load(rt: &HostRuntime, name: &str) -> Result<Vec<u8>, Failed> {
-    match fs::read(rt, name) {
-        Ok(bytes) => Ok(bytes),
+// What came of a file; one that could not be read or written is named.
+fn named<T: Drop>(rt: &HostRuntime, name: &str, outcome: io::Result<T>) -> Result<T, Failed> {
+    match outcome {
+        Ok(value) => Ok(value),
         Err(e) => {
             eprintln!(rt; "jomavetro: {name}: {e}")?;
             Err(Failed::File)
@@ -13,29 +13,26 @@ pub fn load(rt: &HostRuntime, name: &str) -> Result<Vec<u8>, Failed> {
     }
 }
 
-// A file's text; a file that cannot be read is named.
+// A file's bytes.
+pub fn load(rt: &HostRuntime, name: &str) -> Result<Vec<u8>, Failed> {
+    named(rt, name, fs::read(rt, name))
+}
+
+// A file's text.
 pub fn load_text(rt: &HostRuntime, name: &str) -> Result<String, Failed> {
-    match fs::read_to_string(rt, name) {
-        Ok(text) => Ok(text),
-        Err(e) => {
-            eprintln!(rt; "jomavetro: {name}: {e}")?;
-            Err(Failed::File)
-        }
-    }
+    named(rt, name, fs::read_to_string(rt, name))
 }
 
 // Writes a file whole under another name first, so that it appears whole or not at all.
 pub fn save(rt: &HostRuntime, name: &str, bytes: &[u8]) -> Result<(), Failed> {
     let part = format!(in rt.alloc(); "{name}.part")?;
-    if let Err(e) = fs::write(rt, part.as_str(), bytes) {
+    let saved = fs::write(rt, part.as_str(), bytes).and_then(|()| fs::rename(
+        rt,
+        part.as_str(),
+        name,
+    ));
+    if saved.is_err() {
         let _ = fs::remove_file(rt, part.as_str());
-        eprintln!(rt; "jomavetro: {name}: {e}")?;
-        return Err(Failed::File);
     }
-    if let Err(e) = fs::rename(rt, part.as_str(), name) {
-        let _ = fs::remove_file(rt, part.as_str());
-        eprintln!(rt; "jomavetro: {name}: {e}")?;
-        return Err(Failed::File);
-    }
-    Ok(())
+    named(rt, name, saved)
 }

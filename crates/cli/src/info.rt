@@ -6,11 +6,11 @@ use links::directories::Directories;
 use links::walk::walk;
 use octets::endian::Endian;
 use opening::page::open_page;
-use pages::layout::{Cut, Layout};
+use pages::layout::{Cut, Layout, SegmentKind};
 use raster::grid::{Kind, Photometric};
 use store::slices::Chip;
 
-// The two letters of a byte order, and what they mean.
+// The two letters of a byte order, and what they mean. The words are this command's own, so they are no Display of the type.
 fn order_name(endian: Endian) -> &'static str {
     match endian {
         Endian::Little => "II, low byte first",
@@ -28,34 +28,40 @@ fn kind_name(kind: Kind) -> &'static str {
 }
 
 // A refusal in words and in numbers.
-pub fn print_fault(rt: &HostRuntime, fault: Fault) -> Result<(), Failed> {
-    let words = meaning(fault.check);
-    println!(rt; "{words}")?;
+fn print_fault(rt: &HostRuntime, fault: Fault) -> Result<(), Failed> {
+    println!(rt; "{}", meaning(fault.check))?;
     println!(rt; "{fault}")?;
     Ok(())
 }
 
+// What was answered; a refusal is printed, which may fail too, and ends the command.
+pub(crate) fn accepted<T: Drop>(rt: &HostRuntime, answer: Result<T, Fault>) -> Result<T, Failed> {
+    match answer {
+        Ok(value) => Ok(value),
+        Err(fault) => {
+            print_fault(rt, fault)?;
+            Err(Failed::Refused)
+        }
+    }
+}
+
 fn print_cut(rt: &HostRuntime, cut: Cut, count: u32) -> Result<(), Failed> {
-    let wide = cut.wide;
-    let high = cut.high;
-    if cut.tiled {
-        println!(rt; "  {count} tiles of {wide} by {high}")?;
-    } else {
-        println!(rt; "  {count} strips of {high} rows")?;
+    match cut.kind {
+        SegmentKind::Strip => println!(rt; "  {count} strips of {} rows", cut.high)?,
+        SegmentKind::Tile => println!(rt; "  {count} tiles of {} by {}", cut.wide, cut.high)?,
     }
     Ok(())
 }
 
 fn print_layout(rt: &HostRuntime, page: u32, layout: Layout) -> Result<(), Failed> {
-    let place = layout.directory.place;
-    let width = layout.width;
-    let height = layout.height;
-    let bits = layout.kind.bits;
-    let kind = kind_name(layout.kind);
-    let orientation = layout.orientation;
-    println!(rt; "page {page}: directory at byte {place}")?;
+    println!(rt; "page {page}: directory at byte {}", layout.directory.place)?;
     println!(rt;
-        "  {width} by {height} pixels, {kind}, {bits}-bit samples, orientation {orientation}"
+        "  {} by {} pixels, {}, {}-bit samples, orientation {}",
+        layout.width,
+        layout.height,
+        kind_name(layout.kind),
+        layout.kind.bits,
+        layout.orientation
     )?;
     print_cut(rt, layout.cut, layout.offsets.count)
 }
@@ -68,8 +74,7 @@ pub fn print_page(rt: &HostRuntime, chip: &mut Chip, page: u32) -> Result<bool, 
             Ok(true)
         }
         Err(fault) => {
-            let words = meaning(fault.check);
-            println!(rt; "page {page}: {words}")?;
+            println!(rt; "page {page}: {}", meaning(fault.check))?;
             println!(rt; "  {fault}")?;
             Ok(false)
         }
@@ -77,31 +82,19 @@ pub fn print_page(rt: &HostRuntime, chip: &mut Chip, page: u32) -> Result<bool, 
 }
 
 fn print_pages(rt: &HostRuntime, chip: &mut Chip, found: &Directories) -> Result<(), Failed> {
-    let order = order_name(found.endian);
-    let count = found.count;
-    println!(rt; "byte order: {order}")?;
-    println!(rt; "directories: {count}")?;
-    let mut accepted = true;
-    for page in 0..count {
-        accepted = print_page(rt, chip, page)? && accepted;
+    println!(rt; "byte order: {}", order_name(found.endian))?;
+    println!(rt; "directories: {}", found.count())?;
+    let mut all = true;
+    for page in 0..found.count() {
+        all &= print_page(rt, chip, page)?;
     }
-    if accepted {
-        Ok(())
-    } else {
-        Err(Failed::Refused)
-    }
+    if all { Ok(()) } else { Err(Failed::Refused) }
 }
 
 // Prints the byte order of some bytes and what their pages are, or the faults.
 pub fn print_info(rt: &HostRuntime, name: &str, bytes: &[u8]) -> Result<(), Failed> {
-    let length = bytes.len();
-    println!(rt; "{name}: {length} bytes")?;
+    println!(rt; "{name}: {} bytes", bytes.len())?;
     let mut chip = Chip::new(bytes);
-    match walk(&mut chip) {
-        Ok(found) => print_pages(rt, &mut chip, &found),
-        Err(fault) => {
-            print_fault(rt, fault)?;
-            Err(Failed::Refused)
-        }
-    }
+    let found = accepted(rt, walk(&mut chip))?;
+    print_pages(rt, &mut chip, &found)
 }

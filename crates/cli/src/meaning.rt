@@ -1,6 +1,7 @@
 // What each refusal means, in words.
 use faults::fault::Check;
 
+// A check prints as its name, in the crate that it belongs to: the words stand here.
 pub fn meaning(check: Check) -> &'static str {
     match check {
         Check::Past => "the bytes asked for go past the end",

@@ -5,11 +5,10 @@ use drafts::call::{Call, Reply};
 use faults::fault::Fault;
 use hold::Hold;
 use holder::replay::{Line, replay};
-use octets::endian::Endian;
 use plans::plan::Plan;
 use plans::view::View;
 use script::hash::fnv;
-use script::request::{Pieces, Pile, Request, parse};
+use script::request::{Pile, Request, parse};
 use script::words::Wrong;
 use store::slices::Memory;
 use tray::Tray;
@@ -27,46 +26,23 @@ struct Source<'a> {
 
 // A line that is no call is named, with what is wrong with it.
 fn wrong_line(rt: &HostRuntime, line: &str, wrong: Wrong) -> Failed {
-    let what = match wrong {
-        Wrong::Memory => "there is not enough memory",
-        Wrong::Call => "there is no such call",
-        Wrong::Count => "it has too few or too many words",
-        Wrong::Number => "a word is no number that fits 32 bits",
-        Wrong::Choice => "a word is none of those that may stand there",
-    };
-    let _ = eprintln!(rt; "jomavetro: {line}: {what}");
+    let _ = eprintln!(rt; "jomavetro: {line}: {wrong}");
     Failed::Call
 }
 
 // What a line asks for; a line that is no call is named.
-fn parsed<'a>(rt: &HostRuntime, line: &'a str) -> Result<Request<'a>, Failed> {
-    match parse(rt.alloc(), line) {
-        Ok(request) => Ok(request),
-        Err(wrong) => Err(wrong_line(rt, line, wrong)),
-    }
+fn parsed<'a>(rt: &HostRuntime, line: &'a str) -> Result<Option<Request<'a>>, Failed> {
+    parse(rt.alloc(), line).map_err(|wrong| wrong_line(rt, line, wrong))
 }
 
 // The bytes of a new card: the file's, cut off or followed by zeros.
 fn card_bytes(rt: &HostRuntime, source: Source) -> Result<Vec<u8>, Failed> {
     let mut bytes = load(rt, source.name)?;
-    let length = source.length as usize;
-    bytes.truncate(length);
-    let had = bytes.len();
-    for _ in had..length {
-        bytes.push(0)?;
-    }
+    bytes.resize(source.length as usize, 0)?;
     Ok(bytes)
 }
 
-// The plan of a draft, refused outside its limits.
-fn plan_by(endian: Endian, pieces: Pieces) -> Result<Plan, Fault> {
-    match pieces {
-        Pieces::Strips(rows) => Plan::strips(endian, rows),
-        Pieces::Tiles(width, length) => Plan::tiles(endian, width, length),
-    }
-}
-
-// The call that a request makes; none for a card, a dump or a blank line, a refusal for a plan that cannot be made.
+// The call that a request makes; none for a card or a dump, a refusal for a plan that cannot be made.
 fn call_of(request: Request) -> Result<Option<Call>, Fault> {
     match request {
         Request::Open(page) => Ok(Some(Call::Open(page))),
@@ -74,7 +50,7 @@ fn call_of(request: Request) -> Result<Option<Call>, Fault> {
         Request::Window(area, length) => Ok(Some(Call::Window(area, length as usize))),
         Request::Arrow => Ok(Some(Call::Arrow)),
         Request::Begin(area, turn, endian, pieces) => {
-            let plan = plan_by(endian, pieces)?;
+            let plan = Plan::new(endian, pieces)?;
             let turn = turn.min(255) as u8;
             Ok(Some(Call::Begin(View { area, turn }, plan)))
         }
@@ -83,42 +59,42 @@ fn call_of(request: Request) -> Result<Option<Call>, Fault> {
         Request::Switch => Ok(Some(Call::Switch)),
         Request::Keep => Ok(Some(Call::Keep)),
         Request::Scrap => Ok(Some(Call::Scrap)),
-        Request::None | Request::Card(_, _, _) | Request::Dump => Ok(None),
+        Request::Card(_, _, _) | Request::Dump => Ok(None),
     }
 }
 
-// The bytes of the buffer that a request hands in.
-fn buffer_len(request: Request) -> usize {
-    match request {
-        Request::Window(_, length) => length as usize,
-        _ => 0,
-    }
+// A call that no holder has answered yet.
+fn line_of(rt: &HostRuntime, call: Call) -> Result<Line, Failed> {
+    let buffer = match call {
+        Call::Window(_, length) => vec![in rt.alloc(); FILL; length]?,
+        _ => Vec::new(rt.alloc()),
+    };
+    Ok(Line {
+        call,
+        buffer,
+        answer: Ok(Reply::Done),
+    })
 }
 
 // The calls of some lines, up to the next card and at most so many.
 fn gather(rt: &HostRuntime, texts: &[&str], most: usize) -> Result<Vec<Line>, Failed> {
     let mut lines: Vec<Line> = Vec::new(rt.alloc());
     for text in texts {
-        let request = parsed(rt, text.trim())?;
-        if let Request::Card(_, _, _) = request {
-            return Ok(lines);
-        }
-        if lines.len() >= most {
+        let Some(request) = parsed(rt, text.trim())? else {
+            continue;
+        };
+        if matches!(request, Request::Card(_, _, _)) || lines.len() >= most {
             return Ok(lines);
         }
         if let Ok(Some(call)) = call_of(request) {
-            let buffer: Vec<u8> = vec![in rt.alloc(); FILL; buffer_len(request)]?;
-            lines.push(Line {
-                call,
-                buffer,
-                answer: Ok(Reply::Done),
-            })?;
+            lines.push(line_of(rt, call)?)?;
         }
     }
     Ok(lines)
 }
 
 // Sends the calls to a new holder over the pile over some bytes; the answers stand in the lines.
+// Each pile is a type of its own, for which the law is proved: a boxed card would hide which.
 fn run_pile(bytes: &mut [u8], pile: Pile, lines: &mut [Line]) {
     let card = Memory::new(bytes);
     match pile {
@@ -145,18 +121,17 @@ fn print_answer(rt: &HostRuntime, text: &str, line: &Line) -> Result<(), Failed>
     match line.answer {
         Ok(Reply::Done) => print!(rt; "ok")?,
         Ok(Reply::Number(number)) => print!(rt; "ok {number}")?,
-        Ok(Reply::Shown(size, kind)) => {
-            let width = size.width;
-            let height = size.height;
-            let photometric = kind.photometric.number();
-            let bits = kind.bits;
-            print!(rt; "ok {width} {height} {photometric} {bits}")?;
-        }
+        Ok(Reply::Shown(size, kind)) => print!(rt;
+            "ok {} {} {} {}",
+            size.width,
+            size.height,
+            kind.photometric.number(),
+            kind.bits
+        )?,
         Err(fault) => print!(rt; "{fault}")?,
     }
     if let Call::Window(_, _) = line.call {
-        let hash = fnv(line.buffer.as_slice());
-        print!(rt; " fnv {hash:016x}")?;
+        print!(rt; " fnv {:016x}", fnv(line.buffer.as_slice()))?;
     }
     println!(rt; "")?;
     Ok(())
@@ -169,26 +144,25 @@ fn print_answers(
     texts: &[&str],
     lines: &[Line],
 ) -> Result<(), Failed> {
-    let mut next = 0;
+    let mut rest = lines;
     for text in texts {
         let text = text.trim();
-        let request = parsed(rt, text)?;
-        match request {
-            Request::Card(_, _, _) => return Ok(()),
-            Request::None => {}
-            Request::Dump => {
-                let hash = dumped(rt, source, texts, next)?;
+        let Some(request) = parsed(rt, text)? else {
+            continue;
+        };
+        match (request, call_of(request)) {
+            (Request::Card(_, _, _), _) => return Ok(()),
+            (Request::Dump, _) => {
+                let hash = dumped(rt, source, texts, lines.len().saturating_sub(rest.len()))?;
                 println!(rt; "{text} = fnv {hash:016x}")?;
             }
-            _ => match call_of(request) {
-                Err(fault) => println!(rt; "{text} = {fault}")?,
-                Ok(_) => {
-                    if let Some(line) = lines.get(next) {
-                        print_answer(rt, text, line)?;
-                    }
-                    next = next.saturating_add(1);
+            (_, Err(fault)) => println!(rt; "{text} = {fault}")?,
+            (_, Ok(_)) => {
+                if let [line, after @ ..] = rest {
+                    print_answer(rt, text, line)?;
+                    rest = after;
                 }
-            },
+            }
         }
     }
     Ok(())
@@ -206,23 +180,20 @@ fn print_card(rt: &HostRuntime, source: Source, text: &str, texts: &[&str]) -> R
 // Runs a script, and prints each call with its answer.
 pub fn print_script(rt: &HostRuntime, script: &str) -> Result<(), Failed> {
     let texts: Vec<&str> = script.lines().collect(rt.alloc())?;
-    let texts = texts.as_slice();
     let mut begun = false;
-    for i in 0..texts.len() {
-        let text = texts[i].trim();
+    for (i, text) in texts.iter().enumerate() {
+        let text = text.trim();
         match parsed(rt, text)? {
-            Request::Card(name, length, pile) => {
+            Some(Request::Card(name, length, pile)) => {
                 begun = true;
                 let source = Source { name, length, pile };
-                print_card(rt, source, text, &texts[i + 1..])?;
+                print_card(rt, source, text, &texts.as_slice()[i + 1..])?;
             }
-            Request::None => {}
-            _ => {
-                if !begun {
-                    eprintln!(rt; "jomavetro: {text}: there is no card yet")?;
-                    return Err(Failed::Call);
-                }
+            Some(_) if !begun => {
+                eprintln!(rt; "jomavetro: {text}: there is no card yet")?;
+                return Err(Failed::Call);
             }
+            _ => {}
         }
     }
     Ok(())

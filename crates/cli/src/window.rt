@@ -1,7 +1,7 @@
 // A rectangle of a page as a Netpbm picture.
 use crate::failed::Failed;
 use crate::files::{load, save};
-use crate::info::print_fault;
+use crate::info::accepted;
 use faults::fault::Check;
 use holder::holder::Holder;
 use raster::grid::{Area, Grid, Kind, Photometric};
@@ -41,25 +41,13 @@ pub fn write_window(
 ) -> Result<(), Failed> {
     let bytes = load(rt, name)?;
     let mut holder = Holder::new(Chip::new(bytes.as_slice()));
-    if let Err(fault) = holder.open(page) {
-        print_fault(rt, fault)?;
-        return Err(Failed::Refused);
-    }
-    let size = holder.size();
-    if area.width > size.width || area.height > size.height {
-        print_fault(rt, Check::Outside.fault())?;
-        return Err(Failed::Refused);
+    accepted(rt, holder.open(page))?;
+    if !area.fits(holder.size()) {
+        return accepted(rt, Err(Check::Outside.fault()));
     }
     let length = window_room(area, holder.kind());
     let mut buffer: Vec<u8> = vec![in rt.alloc(); 0; length]?;
-    match holder.window(area, buffer.as_mut_slice()) {
-        Ok(count) => {
-            buffer.truncate(count);
-            deliver(rt, out, buffer.as_slice())
-        }
-        Err(fault) => {
-            print_fault(rt, fault)?;
-            Err(Failed::Refused)
-        }
-    }
+    let count = accepted(rt, holder.window(area, buffer.as_mut_slice()))?;
+    buffer.truncate(count);
+    deliver(rt, out, buffer.as_slice())
 }

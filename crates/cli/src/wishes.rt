@@ -1,102 +1,107 @@
 // The words of a relay.
 use crate::failed::Failed;
-use crate::info::print_fault;
-use crate::relay::Wish;
-use faults::fault::{Check, Fault};
+use crate::info::accepted;
+use faults::fault::Check;
+use octets::endian::Endian;
+use plans::pieces::Pieces;
 use plans::plan::Plan;
 use raster::grid::Area;
 use script::request::order_of;
+use script::words::{Wrong, area_of, number};
 
-// A number among the words; any other word is named.
-pub fn number(rt: &HostRuntime, word: &str) -> Result<u32, Failed> {
-    match word.parse::<u32>() {
-        Ok(n) => Ok(n),
-        Err(_) => {
-            eprintln!(rt; "jomavetro: {word} is no number that fits 32 bits")?;
+// How page 0 is to be laid out anew: by a plan, of a rectangle or the whole picture, under a turn.
+#[derive(Clone, Copy)]
+pub struct Wish {
+    pub plan: Plan,
+    pub area: Option<Area>,
+    pub turn: u8,
+}
+
+// What words name; a word that is no number is printed, which may fail too.
+fn named<T: Drop>(rt: &HostRuntime, found: Result<T, Wrong>) -> Result<T, Failed> {
+    match found {
+        Ok(value) => Ok(value),
+        Err(wrong) => {
+            if let Wrong::Number(word) = wrong {
+                eprintln!(rt; "jomavetro: {word} is no number that fits 32 bits")?;
+            }
             Err(Failed::Call)
         }
     }
 }
 
-// A plan that was made, or its refusal in words.
-fn made(rt: &HostRuntime, plan: Result<Plan, Fault>) -> Result<Plan, Failed> {
-    match plan {
-        Ok(plan) => Ok(plan),
-        Err(fault) => {
-            print_fault(rt, fault)?;
-            Err(Failed::Refused)
-        }
-    }
+// The number that a word stands for.
+pub(crate) fn number_by(rt: &HostRuntime, word: &str) -> Result<u32, Failed> {
+    named(rt, number(word))
 }
 
-// How many words a plan takes: an order, `strips` and the rows, or an order, `tiles` and two sides.
-pub fn plan_words(words: &[String]) -> usize {
-    if words.len() > 1 && words[1].as_str() == "tiles" {
-        4
-    } else {
-        3
-    }
+// The rectangle that four words name.
+pub(crate) fn area_by(
+    rt: &HostRuntime,
+    x: &str,
+    y: &str,
+    width: &str,
+    height: &str,
+) -> Result<Area, Failed> {
+    named(rt, area_of(x, y, width, height))
 }
 
-// The plan that some words begin with.
-pub fn plan_of(rt: &HostRuntime, words: &[String]) -> Result<Plan, Failed> {
-    if words.len() < 3 {
-        return Err(Failed::Call);
-    }
-    let Ok(endian) = order_of(words[0].as_str()) else {
-        return Err(Failed::Call);
-    };
-    let first = number(rt, words[2].as_str())?;
-    if words[1].as_str() == "strips" {
-        return made(rt, Plan::strips(endian, first));
-    }
-    if words[1].as_str() == "tiles" && words.len() >= 4 {
-        let second = number(rt, words[3].as_str())?;
-        return made(rt, Plan::tiles(endian, first, second));
-    }
-    Err(Failed::Call)
+// The byte order that a word names.
+fn endian_by(rt: &HostRuntime, word: &str) -> Result<Endian, Failed> {
+    named(rt, order_of(word))
 }
 
 // A turn from 1 to 8.
 fn turn_of(rt: &HostRuntime, word: &str) -> Result<u8, Failed> {
-    let turn = number(rt, word)?;
-    if turn < 1 || turn > 8 {
-        print_fault(rt, Check::View.fault())?;
-        return Err(Failed::Refused);
+    match number_by(rt, word)? {
+        turn @ 1..=8 => Ok(turn as u8),
+        _ => accepted(rt, Err(Check::View.fault())),
     }
-    Ok(turn as u8)
 }
 
-// The rectangle in five words, of which the first is `view`.
-fn area_of(rt: &HostRuntime, words: &[String]) -> Result<Area, Failed> {
-    if words.len() < 5 {
-        return Err(Failed::Call);
-    }
-    Ok(Area {
-        x: number(rt, words[1].as_str())?,
-        y: number(rt, words[2].as_str())?,
-        width: number(rt, words[3].as_str())?,
-        height: number(rt, words[4].as_str())?,
-    })
-}
-
-// What is to be drawn, by the words after the plan.
-pub fn wish_of(rt: &HostRuntime, words: &[String]) -> Result<Wish, Failed> {
-    let mut rest = words;
-    let mut area = None;
-    if rest.len() > 0 && rest[0].as_str() == "view" {
-        area = Some(area_of(rt, rest)?);
-        if rest.len() < 5 {
-            return Err(Failed::Call);
+// The plan that some words begin with, and the words after it.
+fn plan_of<'w, 'a>(
+    rt: &HostRuntime,
+    words: &'w [&'a str],
+) -> Result<(Plan, &'w [&'a str]), Failed> {
+    match words {
+        [order, "strips", rows, rest @ ..] => {
+            let endian = endian_by(rt, order)?;
+            let rows = number_by(rt, rows)?;
+            let plan = Plan::new(endian, Pieces::Strips { rows });
+            Ok((accepted(rt, plan)?, rest))
         }
-        rest = &rest[5..];
+        [order, "tiles", width, length, rest @ ..] => {
+            let endian = endian_by(rt, order)?;
+            let width = number_by(rt, width)?;
+            let length = number_by(rt, length)?;
+            let plan = Plan::new(endian, Pieces::Tiles { width, length });
+            Ok((accepted(rt, plan)?, rest))
+        }
+        [_, "tiles", ..] => Err(Failed::Call),
+        // Such a third word is named where it is no number, whatever the second is.
+        [order, _, size, ..] => {
+            endian_by(rt, order)?;
+            number_by(rt, size)?;
+            Err(Failed::Call)
+        }
+        _ => Err(Failed::Call),
     }
-    if rest.len() == 0 {
-        return Ok(Wish { area, turn: 1 });
-    }
-    if rest.len() == 2 && rest[0].as_str() == "turn" {
-        let turn = turn_of(rt, rest[1].as_str())?;
-        return Ok(Wish { area, turn });
-    }
-    Err(Failed::Call)
+}
+
+// What some words wish for: a plan, perhaps a rectangle after `view`, and perhaps a turn after `turn`.
+pub fn wish_of(rt: &HostRuntime, words: &[&str]) -> Result<Wish, Failed> {
+    let (plan, rest) = plan_of(rt, words)?;
+    let (area, rest) = match rest {
+        ["view", x, y, width, height, rest @ ..] => {
+            (Some(area_by(rt, x, y, width, height)?), rest)
+        }
+        _ => (None, rest),
+    };
+    let turn = match rest {
+        [] => 1,
+        ["turn", turn] => turn_of(rt, turn)?,
+        _ => return Err(Failed::Call),
+    };
+    Ok(Wish { plan, area, turn })
 }

@@ -1,6 +1,7 @@
 -- What a store means: the bytes seen, what each sector may be found with, and its trail. Assumes nothing.
 use Rattle.std.specs.Prelude.{◌≡◌, ℕ, ◌^◌, ◌<◌, List, length}
 use Rattle.octets.specs.Sectors.{sector, In, Lists}
+use Rattle.store.specs.declared.traits.Store.{Ghosts}
 use Rattle.store.specs.Rules.{NoGain, Alone}
 
 pub record Mem : Type 0 where
@@ -8,8 +9,8 @@ pub record Mem : Type 0 where
   pub may : Lists
   pub trail : Lists
 
-abbrev pub mem_of : {S : Type 0} → (S → List ℕ) → (S → Lists) → (S → Lists) → S → Mem
-mem_of seen may trail x = record { seen = seen x; may = may x; trail = trail x }
+abbrev pub mem_of : {S : Type 0} → Ghosts S → S → Mem
+mem_of s x = record { seen = s.seen x; may = s.may x; trail = s.trail x }
 
 -- the law of every store
 pub record Lawful (m : Mem) : Type 0 where

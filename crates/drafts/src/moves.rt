@@ -9,12 +9,7 @@ impl Draft {
     pub fn at(self, stage: Stage) -> Draft
         ensures { result ≡ staged self stage }
     {
-        Draft {
-            view: self.view,
-            plan: self.plan,
-            place: self.place,
-            stage,
-        }
+        Draft { stage, ..self }
     }
 }
 
@@ -22,9 +17,8 @@ impl Draft {
 pub fn next_stage(n: u64, done: u32) -> Stage
     ensures { n ≤ 2 ^ 32 → result ≡ next_stage n done }
 {
-    if done < u32::MAX && (done as u64) + 1 < n {
-        Stage::Begun(done + 1)
-    } else {
-        Stage::Carried
+    match done.checked_add(1) {
+        Some(next) if u64::from(next) < n => Stage::Begun(next),
+        _ => Stage::Carried,
     }
 }

@@ -4,7 +4,7 @@ use plans::view::View;
 use stored::page::Page;
 
 // How far a draft has come that is out.
-#[derive(Clone, Copy)]
+#[derive(Clone, Copy, PartialEq, Eq)]
 pub enum Stage {
     // Begun: so many of its sectors are carried, and not all.
     Begun(u32),
@@ -29,6 +29,7 @@ pub struct Draft {
 #[derive(Clone, Copy)]
 pub struct State {
     pub page: Option<Page>,
+    // A turn from 1 to 8, a number as in `raster::turns::then`.
     pub arrow: u8,
     pub draft: Option<Draft>,
 }

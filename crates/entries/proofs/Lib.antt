@@ -1,4 +1,3 @@
-pub mod Looks
 pub mod Accepting
 pub mod Decoding
 pub mod Scanning

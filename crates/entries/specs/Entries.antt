@@ -1,5 +1,5 @@
 -- The entries of a directory, and the checks of each. Assumes nothing.
-use Rattle.std.specs.Prelude.{ℕ, zero, suc, ◌+◌, ◌*◌, ◌%◌, ◌≤◌, Bool, cond, not, ◌&&◌, ◌||◌, List, [], ◌∷◌, length, Some, None, Ok, Option, Result, ◌==◌, nat_le, nat_lt, slice_index}
+use Rattle.std.specs.Prelude.{ℕ, zero, suc, ◌+◌, ◌*◌, ◌%◌, ◌≤◌, Bool, cond, not, ◌&&◌, ◌||◌, List, [], ◌∷◌, length, Some, None, Ok, Option, Result, ◌==◌, nat_le, nat_lt}
 use Rattle.faults.specs.declared.fault.Check.TheVariants.{Order, Field, Value}
 use Rattle.faults.specs.declared.fault.Fault.{Fault}
 use Rattle.faults.specs.Faults.{fault, refused, then}
@@ -7,12 +7,14 @@ use Rattle.octets.specs.Numbers.{short, long}
 use Rattle.octets.specs.declared.endian.Endian.{Endian}
 use Rattle.entries.specs.declared.entry.Directory.{Directory}
 use Rattle.entries.specs.declared.entry.Entry.{Entry}
+use Rattle.entries.specs.declared.entry.RawEntry.{RawEntry}
 use Rattle.entries.specs.declared.entry.Shape.{Shape}
 use Rattle.entries.specs.declared.entry.Shape.TheVariants.{One, OneShort, Bits, Many}
+use Rattle.entries.specs.Types.{type_of, sized}
 
 -- the bytes that a value takes, by the number of its type, and 0 for a number that is none
 abbrev pub unit : ℕ → ℕ
-unit kind = slice_index (0 ∷ 1 ∷ 1 ∷ 2 ∷ 4 ∷ 8 ∷ 1 ∷ 1 ∷ 2 ∷ 4 ∷ 8 ∷ 4 ∷ 8 ∷ []) kind
+unit kind = sized (type_of kind)
 
 -- the bytes that so many values of a type take
 abbrev pub size_of : ℕ → ℕ → ℕ
@@ -22,15 +24,28 @@ size_of kind count = unit kind * count
 abbrev pub home_of : ℕ → ℕ → ℕ → ℕ
 home_of place size last = cond (nat_le size 4) (place + 8) last
 
--- the entry at a place
-unfoldable pub entry_at : Endian → List ℕ → ℕ → Entry
-entry_at o bs place = record {
+-- the numbers of the entry at a place
+abbrev pub raw_at : Endian → List ℕ → ℕ → RawEntry
+raw_at o bs place = record {
   tag = short o bs place;
   kind = short o bs (place + 2);
   count = long o bs (place + 4);
-  place = place;
-  values = home_of place (size_of (short o bs (place + 2)) (long o bs (place + 4))) (long o bs (place + 8));
+  last = long o bs (place + 8);
 }
+
+-- the entry of such numbers at a place
+abbrev pub entry_of : ℕ → RawEntry → Entry
+entry_of place r = record {
+  tag = r.tag;
+  kind = r.kind;
+  count = r.count;
+  place = place;
+  values = home_of place (size_of r.kind r.count) r.last;
+}
+
+-- the entry at a place
+unfoldable pub entry_at : Endian → List ℕ → ℕ → Entry
+entry_at o bs place = entry_of place (raw_at o bs place)
 
 -- so many entries from a place on
 abbrev pub entries_from : ℕ → Endian → List ℕ → ℕ → List Entry

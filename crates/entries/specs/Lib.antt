@@ -1,3 +1,3 @@
-pub mod Looking
+pub mod Types
 pub mod Entries
 pub mod Fields

@@ -1,17 +1,11 @@
 // An entry of a directory, and the checks of one.
-ghost use Rattle.std.specs.Prelude.{◌≡◌, ◌+◌, ◌*◌, ◌^◌, ◌<◌};
-ghost use Rattle.entries.specs.Entries.{unit, size_of, home_of, shape_of, fits, size, astray, accepted};
+ghost use Rattle.std.specs.Prelude.{◌≡◌, ◌+◌, ◌^◌, ◌<◌};
+ghost use Rattle.entries.specs.Entries.{size_of, home_of, raw_at, entry_of, shape_of, fits, size, astray, accepted};
 
+use crate::field_type::FieldType;
 use faults::fault::{Check, Fault};
 use octets::endian::Endian;
-
-// The number of the type of two-byte numbers, and that of four-byte numbers.
-pub const SHORT: u16 = 3;
-
-pub const LONG: u16 = 4;
-
-// The bytes that a value of each type takes.
-const UNITS: [u8; 13] = [0, 1, 1, 2, 4, 8, 1, 1, 2, 4, 8, 4, 8];
+use octets::word::Word;
 
 // A directory of a file: its page, its place and the number of its entries.
 #[derive(Clone, Copy)]
@@ -22,7 +16,17 @@ pub struct Directory {
     pub entries: u32,
 }
 
+// The numbers in the twelve bytes of an entry. The last four bytes hold the values, or their place.
+#[derive(Clone, Copy)]
+pub struct RawEntry {
+    pub tag: u16,
+    pub kind: u16,
+    pub count: u32,
+    pub last: u32,
+}
+
 // An entry by its tag, the number of its type, how many values it has, its place, and the place of its first value.
+// The number is no FieldType, since an entry of an unlisted tag may have any.
 #[derive(Clone, Copy)]
 pub struct Entry {
     pub tag: u16,
@@ -63,27 +67,24 @@ impl Shape {
     fn admits(self, kind: u16, count: u32) -> bool
         ensures { result ≡ fits self kind count }
     {
+        let short = FieldType::Short.number();
+        let long = FieldType::Long.number();
         match self {
-            Shape::One => (kind == SHORT || kind == LONG) && count == 1,
-            Shape::OneShort => kind == SHORT && count == 1,
-            Shape::Bits => kind == SHORT && (count == 1 || count == 3),
-            Shape::Many => (kind == SHORT || kind == LONG) && count > 0,
+            Shape::One => (kind == short || kind == long) && count == 1,
+            Shape::OneShort => kind == short && count == 1,
+            Shape::Bits => kind == short && (count == 1 || count == 3),
+            Shape::Many => (kind == short || kind == long) && count > 0,
         }
     }
 }
 
-// The bytes that a value of a type takes, and 0 for a number that is no type.
-fn unit_of(kind: u16) -> u8
-    ensures { result ≡ unit kind }
-{
-    if kind < 13 { UNITS[kind as usize] } else { 0 }
-}
-
-// The bytes that so many values of a type take.
+// The bytes that so many values of a type take, and 0 for a number that names no type.
 pub fn size_of(kind: u16, count: u32) -> u64
-    ensures { (result ≡ size_of kind count) × (result < 2 ^ 40) }
+    ensures value { result ≡ size_of kind count }
+    ensures few { result < 2 ^ 40 }
 {
-    unit_of(kind) as u64 * count as u64
+    let unit = FieldType::try_from(kind).map_or(0, |kind| kind.size());
+    unit as u64 * count as u64
 }
 
 // Where values of some size begin, by the place of their entry and the number in its last four bytes.
@@ -94,10 +95,39 @@ pub fn home_of(place: u32, size: u64, last: u32) -> u32
     if size <= 4 { place + 8 } else { last }
 }
 
+impl RawEntry {
+    // The numbers in twelve bytes.
+    pub fn decode(endian: Endian, b: [u8; 12]) -> RawEntry
+        ensures { result ≡ raw_at endian b 0 }
+    {
+        RawEntry {
+            tag: u16::from_bytes(endian, [b[0], b[1]]),
+            kind: u16::from_bytes(endian, [b[2], b[3]]),
+            count: u32::from_bytes(endian, [b[4], b[5], b[6], b[7]]),
+            last: u32::from_bytes(endian, [b[8], b[9], b[10], b[11]]),
+        }
+    }
+
+    // The entry of these numbers at a place.
+    pub fn at(self, place: u32) -> Entry
+        requires { place + 12 < 2 ^ 32 }
+        ensures { result ≡ entry_of place self }
+    {
+        Entry {
+            tag: self.tag,
+            kind: self.kind,
+            count: self.count,
+            place,
+            values: home_of(place, size_of(self.kind, self.count), self.last),
+        }
+    }
+}
+
 impl Entry {
     // The bytes that the values take.
     pub fn size(self) -> u64
-        ensures { (result ≡ size self) × (result < 2 ^ 40) }
+        ensures value { result ≡ size self }
+        ensures few { result < 2 ^ 40 }
     {
         size_of(self.kind, self.count)
     }

@@ -2,7 +2,8 @@
 ghost use Rattle.std.specs.Prelude.{◌≡◌, [], ◌∷◌};
 ghost use Rattle.entries.specs.Fields.{wide, place_of, form_of, numbers_of, chosen, table_from, gathered_from, no_fields};
 
-use crate::entry::{Entry, SHORT};
+use crate::entry::Entry;
+use crate::field_type::FieldType;
 
 // The form of a number: a SHORT takes two bytes, a LONG four.
 #[derive(Clone, Copy)]
@@ -20,14 +21,14 @@ pub struct Numbers {
 }
 
 // The offsets and the byte counts of strips or of tiles.
-#[derive(Clone, Copy)]
+#[derive(Clone, Copy, Default)]
 pub struct Table {
     pub offsets: Option<Numbers>,
     pub counts: Option<Numbers>,
 }
 
 // The listed tags of a page, each with its values where it is present.
-#[derive(Clone, Copy)]
+#[derive(Clone, Copy, Default)]
 pub struct Fields {
     // 256
     pub width: Option<Numbers>,
@@ -63,7 +64,7 @@ pub struct Fields {
 fn form_of(kind: u16) -> Form
     ensures { result ≡ form_of kind }
 {
-    if kind == SHORT {
+    if kind == FieldType::Short.number() {
         Form::Short
     } else {
         Form::Long
@@ -115,11 +116,6 @@ impl Entry {
     }
 }
 
-const NO_TABLE: Table = Table {
-    offsets: None,
-    counts: None,
-};
-
 impl Table {
     // The table once an entry is met, by the tags of its offsets and of its byte counts.
     fn with(self, offsets: u16, counts: u16, entry: Entry) -> Table
@@ -137,22 +133,7 @@ impl Fields {
     pub fn none() -> Fields
         ensures { result ≡ no_fields }
     {
-        Fields {
-            width: None,
-            height: None,
-            bits: None,
-            compression: None,
-            photometric: None,
-            fill: None,
-            strips: NO_TABLE,
-            orientation: None,
-            samples: None,
-            rows: None,
-            planes: None,
-            across: None,
-            down: None,
-            tiles: NO_TABLE,
-        }
+        Fields::default()
     }
 
     // The listed tags once an entry is met.

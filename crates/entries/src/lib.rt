@@ -2,5 +2,6 @@
 #![tactic(auto)]
 
 pub mod entry;
+pub mod field_type;
 pub mod fields;
 pub mod reading;

@@ -1,6 +1,6 @@
 // Entries and their values, read from any store.
 ghost use Rattle.std.specs.Prelude.{◌≡◌, ◌+◌, ◌*◌, ◌^◌, ◌<◌, ◌≤◌, length};
-ghost use Rattle.entries.specs.Looking.{Looked};
+ghost use Rattle.store.specs.Looking.{Looked};
 ghost use Rattle.entries.specs.Entries.{entry_at, Inside};
 ghost use Rattle.entries.specs.Fields.{fielded, number_at, nth_or, count_or};
 
@@ -8,7 +8,7 @@ use crate::entry::*;
 use crate::fields::*;
 use faults::fault::Fault;
 use octets::endian::Endian;
-use reads::numbers::{fill, read_long, read_short};
+use reads::numbers::{read, read_array};
 use store::traits::Store;
 
 // The entry at a place; one read of the store.
@@ -17,20 +17,7 @@ pub fn read_entry<S: Store>(store: &mut S, endian: Endian, place: u32) -> Entry
     ensures value { result ≡ entry_at endian (S.Store.seen store.old) place }
     ensures looked { Looked S.Store.seen S.Store.may S.Store.trail store.old store.new }
 {
-    let mut b = [0u8; 12];
-    fill(store, place, &mut b);
-    let tag = endian.short([b[0], b[1]]);
-    let kind = endian.short([b[2], b[3]]);
-    let count = endian.long([b[4], b[5], b[6], b[7]]);
-    let last = endian.long([b[8], b[9], b[10], b[11]]);
-    let values = home_of(place, size_of(kind, count), last);
-    Entry {
-        tag,
-        kind,
-        count,
-        place,
-        values,
-    }
+    RawEntry::decode(endian, read_array(store, place)).at(place)
 }
 
 // The listed tags of a directory whose entries pass their checks, or the first fault; one read an entry.
@@ -42,6 +29,7 @@ pub fn scan<S: Store>(store: &mut S, directory: Directory) -> Result<Fields, Fau
     let n = store.length();
     let mut least = 0;
     let mut fields = Fields::none();
+    // Each entry is read from the store and may end the scan: a `for` with `?`.
     for i in 0..directory.entries {
         let entry = read_entry(store, directory.endian, directory.place + 2 + 12 * i);
         least = entry.accept(n, directory.page, least)?;
@@ -60,8 +48,8 @@ pub fn read_number<S: Store>(store: &mut S, endian: Endian, numbers: Numbers, k:
         return 0;
     }
     match numbers.form {
-        Form::Short => read_short(store, endian, place as u32) as u32,
-        Form::Long => read_long(store, endian, place as u32),
+        Form::Short => read::<u16, 2, S>(store, endian, place as u32) as u32,
+        Form::Long => read(store, endian, place as u32),
     }
 }
 
@@ -77,14 +65,8 @@ pub fn read_or<S: Store>(
     ensures looked { Looked S.Store.seen S.Store.may S.Store.trail store.old store.new }
 {
     match field {
-        Some(numbers) => {
-            if k < numbers.count {
-                read_number(store, endian, numbers, k)
-            } else {
-                default
-            }
-        }
-        None => default,
+        Some(numbers) if k < numbers.count => read_number(store, endian, numbers, k),
+        _ => default,
     }
 }
 
@@ -92,8 +74,5 @@ pub fn read_or<S: Store>(
 pub fn count_or(default: u32, field: Option<Numbers>) -> u32
     ensures { result ≡ count_or default field }
 {
-    match field {
-        Some(numbers) => numbers.count,
-        None => default,
-    }
+    field.map_or(default, |numbers| numbers.count)
 }

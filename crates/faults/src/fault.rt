@@ -2,59 +2,59 @@
 #[derive(Clone, Copy, PartialEq, Eq, Debug)]
 pub enum Check {
     // The bytes asked for go past the end of the store.
-    Past,
+    Past = 1,
     // A draft is out: one was begun, and neither kept nor scrapped since.
-    Busy,
+    Busy = 3,
     // The store is shorter than a header.
-    Short,
+    Short = 4,
     // The first four bytes are those of neither byte order.
-    Magic,
+    Magic = 5,
     // A link leads to no place where a directory can stand.
-    Link,
+    Link = 6,
     // A link leads to a directory that was met before.
-    Cycle,
+    Cycle = 7,
     // There are more directories than 32.
-    Chain,
+    Chain = 8,
     // A directory has no entry, or more than 64.
-    Count,
+    Count = 9,
     // A directory goes past the end of the store.
-    Torn,
+    Torn = 10,
     // The file has no such page.
-    Page,
+    Page = 11,
     // An entry's tag is not above the one before it.
-    Order,
+    Order = 12,
     // A listed tag has another type or count than it must have.
-    Field,
+    Field = 13,
     // A listed tag's values do not lie where they may.
-    Value,
+    Value = 14,
     // A tag that the page needs is absent.
-    Missing,
+    Missing = 15,
     // The page's kind is none that is read here.
-    Kind,
+    Kind = 17,
     // A side is outside its limits.
-    Size,
+    Size = 18,
     // The offsets or the byte counts are not one a segment, or there are too many segments.
-    Tally,
+    Tally = 19,
     // A segment does not hold what it needs.
-    Segment,
+    Segment = 20,
     // A pixel or a rectangle lies outside the picture.
-    Outside,
+    Outside = 21,
     // The buffer is too short.
-    Small,
+    Small = 22,
     // No page is shown.
-    Closed,
+    Closed = 23,
     // The file has several directories.
-    Pages,
+    Pages = 24,
     // The view is no rectangle of the picture, or its turn is none.
-    View,
+    View = 25,
     // The plan is outside its limits.
-    Plan,
+    Plan = 26,
     // The draft would have too many segments.
-    Many,
+    Many = 27,
     // There is no room for the draft.
-    Space,
+    Space = 28,
     // The draft is not at the stage that the call needs.
-    Stage,
+    Stage = 29,
 }
 
 // A failed check, with the page, the tag and the place that it names, each 0 where it names none.

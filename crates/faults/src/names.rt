@@ -9,38 +9,10 @@ impl Check {
     pub fn number(self) -> u8
         ensures { result ≡ (report self).number }
     {
-        match self {
-            Check::Past => 1,
-            Check::Busy => 3,
-            Check::Short => 4,
-            Check::Magic => 5,
-            Check::Link => 6,
-            Check::Cycle => 7,
-            Check::Chain => 8,
-            Check::Count => 9,
-            Check::Torn => 10,
-            Check::Page => 11,
-            Check::Order => 12,
-            Check::Field => 13,
-            Check::Value => 14,
-            Check::Missing => 15,
-            Check::Kind => 17,
-            Check::Size => 18,
-            Check::Tally => 19,
-            Check::Segment => 20,
-            Check::Outside => 21,
-            Check::Small => 22,
-            Check::Closed => 23,
-            Check::Pages => 24,
-            Check::View => 25,
-            Check::Plan => 26,
-            Check::Many => 27,
-            Check::Space => 28,
-            Check::Stage => 29,
-        }
+        self as u8
     }
 
-    // The name under which a refusal is reported.
+    // The name under which a refusal is reported. A derived Debug prints it too, but promises nothing that a proof can use.
     pub fn name(self) -> &'static str
         ensures { result.now ≡ (report self).name }
     {

@@ -1,23 +1,32 @@
-// A fault as it is printed.
+// Checks and faults as they are printed.
 ghost use Rattle.std.specs.Prelude.{Some};
-ghost use Rattle.faults.specs.Faults.{printed};
+ghost use Rattle.faults.specs.Faults.{report, printed};
 
-use crate::fault::Fault;
+use crate::fault::{Check, Fault};
 use std::fmt;
+
+// The check's name.
+impl fmt::Display for Check {
+    ghost output = { λ c. Some (report c).name };
+
+    fn fmt<W: fmt::Write>(&self, f: &mut fmt::Formatter<W>) -> fmt::Result {
+        f.write_str(self.name())
+    }
+}
 
 // `refused NUMBER NAME page P tag T place L`.
 impl fmt::Display for Fault {
     ghost output = { λ f. Some (printed f) };
 
     fn fmt<W: fmt::Write>(&self, f: &mut fmt::Formatter<W>) -> fmt::Result {
-        let number = self.check.number();
-        let name = self.check.name();
-        let page = self.page;
-        let tag = self.tag;
-        let place = self.place;
         write!(
             f,
-            "refused {number} {name} page {page} tag {tag} place {place}"
+            "refused {} {} page {} tag {} place {}",
+            self.check.number(),
+            self.check,
+            self.page,
+            self.tag,
+            self.place,
         )
     }
 }

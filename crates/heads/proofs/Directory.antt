@@ -1,11 +1,12 @@
 -- What stands before the pixels of a draft, byte by byte.
-use Rattle.std.proofs.Common.{◌≡◌, ℕ, ◌+◌, ◌-◌, ◌*◌, ◌<◌, ◌≤◌, Bool, List, ◌++◌, length, sym, refl, ap, ◌∙◌, arith}
+use Rattle.std.proofs.Common.{◌≡◌, ℕ, ◌+◌, ◌-◌, ◌*◌, ◌<◌, ◌≤◌, List, ◌++◌, length, sym, refl, ap, ◌∙◌, arith}
 use Rattle.std.specs.List.{flat_map}
 use Rattle.std.proofs.lemmas.List.{get_or_append_left, get_or-append_right}
 use Rattle.octets.specs.declared.endian.Endian.{Endian}
 use Rattle.octets.specs.Digits.{digit, byte_of}
 use Rattle.octets.specs.Numbers.{number_bytes}
 use Rattle.octets.specs.Rows.{byte}
+use Rattle.pages.specs.declared.layout.SegmentKind.{SegmentKind}
 use Rattle.plans.specs.declared.outline.Outline.{Outline}
 use Rattle.plans.specs.Outlines.{directory_size, head_size}
 use Rattle.plans.specs.Directories.{Field, outer_bytes, entries_bytes, directory_bytes}
@@ -20,7 +21,7 @@ zero_byte : (o : Endian) (n t : ℕ) → byte_of o n 0 t ≡ 0
 unfolding byte_of digit
 zero_byte o n t = omega arith
 
-module _ (q : Outline) (place : ℕ) (t : Bool) where
+module _ (q : Outline) (place : ℕ) (t : SegmentKind) where
   abbrev o : Endian
   o = q.endian
 

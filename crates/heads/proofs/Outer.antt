@@ -9,6 +9,9 @@ use Rattle.octets.specs.Digits.{byte_of}
 use Rattle.octets.specs.Numbers.{number_bytes}
 use Rattle.octets.specs.Rows.{byte, tabulate}
 use Rattle.raster.specs.Picture.{number_of}
+use Rattle.pages.specs.declared.layout.SegmentKind.{SegmentKind}
+use Rattle.pages.specs.declared.layout.SegmentKind.TheVariants.{Strip, Tile}
+use Rattle.pages.specs.Tags.{are_tiles}
 use Rattle.plans.specs.declared.outline.Outline.{Outline}
 use Rattle.plans.specs.Outlines.{segments_in, segment_size, bits_size, longs_size, head_size}
 use Rattle.plans.specs.Directories.{shorts, longs, rational, inline, value_bytes, outer_bytes}
@@ -86,7 +89,7 @@ ratios_value o ys r i l m =
     (cases_lt i (r + 8))
 
 -- the values after the directory
-abbrev pub outer_in : Bool → Outline → ℕ → List ℕ
+abbrev pub outer_in : SegmentKind → Outline → ℕ → List ℕ
 outer_in t q place = flat_map (outer_bytes q.endian) (fields_by t q (place + head_size q))
 
 module _ (q : Outline) (place : ℕ) where
@@ -127,113 +130,113 @@ module _ (q : Outline) (place : ℕ) where
   length_C tag = length_outer o (longs tag (byte_counts q)) (omega arith) ∙ outer_table tag n (segment_size q)
 
   -- where the values stand, of strips and of tiles
-  module _ (strips : q.cut.tiled ≡ false) where
+  module _ (strips : q.cut.kind ≡ Strip) where
     a150 : bits_at q ≡ 150
-    a150 = ap (λ m. 6 + 12 * m) (cond-false q.cut.tiled 13 12 strips)
+    a150 = ap (λ m. 6 + 12 * m) (cond-false (are_tiles q.cut.kind) 13 12 (ap are_tiles strips))
 
     a_o : offsets_at q ≡ 150 + size
-    a_o = ap (λ m. m + size) (cond-false q.cut.tiled 178 150 strips)
+    a_o = ap (λ m. m + size) (cond-false (are_tiles q.cut.kind) 178 150 (ap are_tiles strips))
 
     a_r : ratios_at q ≡ 150 + size + 2 * L
-    a_r = cond-false q.cut.tiled (162 + size) (150 + size + 2 * L) strips
+    a_r = cond-false (are_tiles q.cut.kind) (162 + size) (150 + size + 2 * L) (ap are_tiles strips)
 
     module _ (i : ℕ) where
-      past_B : offsets_at q ≤ i → byte (outer_in false q place) (i - bits_at q) ≡ byte (O 273 ++ (C 279 ++ (R ++ (R ++ [])))) (i - offsets_at q)
+      past_B : offsets_at q ≤ i → byte (outer_in Strip q place) (i - bits_at q) ≡ byte (O 273 ++ (C 279 ++ (R ++ (R ++ [])))) (i - offsets_at q)
       past_B l = skip B (O 273 ++ (C 279 ++ (R ++ (R ++ [])))) (bits_at q) (offsets_at q) i (omega (arith, a150, a_o, length_B)) l
 
-      past_O : counts_at q ≤ i → byte (outer_in false q place) (i - bits_at q) ≡ byte (C 279 ++ (R ++ (R ++ []))) (i - counts_at q)
+      past_O : counts_at q ≤ i → byte (outer_in Strip q place) (i - bits_at q) ≡ byte (C 279 ++ (R ++ (R ++ []))) (i - counts_at q)
       past_O l = past_B (omega arith) ∙ skip (O 273) (C 279 ++ (R ++ (R ++ []))) (offsets_at q) (counts_at q) i (omega (arith, length_O 273)) l
 
-      past_C : ratios_at q ≤ i → byte (outer_in false q place) (i - bits_at q) ≡ byte (R ++ (R ++ [])) (i - ratios_at q)
+      past_C : ratios_at q ≤ i → byte (outer_in Strip q place) (i - bits_at q) ≡ byte (R ++ (R ++ [])) (i - ratios_at q)
       past_C l = past_O (omega (arith, a_o, a_r)) ∙ skip (C 279) (R ++ (R ++ [])) (counts_at q) (ratios_at q) i (omega (arith, length_C 279, a_o, a_r)) l
 
-      strip_bits : bits_at q ≤ i → i < bits_at q + size → byte_of o 2 q.kind.bits ((i - bits_at q) % 2) ≡ byte (outer_in false q place) (i - bits_at q)
+      strip_bits : bits_at q ≤ i → i < bits_at q + size → byte_of o 2 q.kind.bits ((i - bits_at q) % 2) ≡ byte (outer_in Strip q place) (i - bits_at q)
       strip_bits l m = sym (stop B (O 273 ++ (C 279 ++ (R ++ (R ++ [])))) (bits_at q) (bits_at q + size) i (omega (arith, length_B)) l m ∙ bits_value q (i - bits_at q) (omega arith))
 
-      strip_offset : offsets_at q ≤ i → i < counts_at q → byte_of o 4 (offset_of q place ((i - offsets_at q) / 4)) ((i - offsets_at q) % 4) ≡ byte (outer_in false q place) (i - bits_at q)
+      strip_offset : offsets_at q ≤ i → i < counts_at q → byte_of o 4 (offset_of q place ((i - offsets_at q) / 4)) ((i - offsets_at q) % 4) ≡ byte (outer_in Strip q place) (i - bits_at q)
       strip_offset l m =
           sym (past_B l ∙ stop (O 273) (C 279 ++ (R ++ (R ++ []))) (offsets_at q) (counts_at q) i (omega (arith, length_O 273)) l m
           ∙ table_value o 273 n offset (i - offsets_at q) (omega arith))
 
-      strip_count : counts_at q ≤ i → i < counts_at q + L → byte_of o 4 (segment_size q ((i - counts_at q) / 4)) ((i - counts_at q) % 4) ≡ byte (outer_in false q place) (i - bits_at q)
+      strip_count : counts_at q ≤ i → i < counts_at q + L → byte_of o 4 (segment_size q ((i - counts_at q) / 4)) ((i - counts_at q) % 4) ≡ byte (outer_in Strip q place) (i - bits_at q)
       strip_count l m =
           sym (past_O l ∙ stop (C 279) (R ++ (R ++ [])) (counts_at q) (counts_at q + L) i (omega (arith, length_C 279)) l m
           ∙ table_value o 279 n (segment_size q) (i - counts_at q) (omega arith))
 
-      strip_ratio : ratios_at q ≤ i → i < ratios_at q + 16 → byte_of o 4 1 ((i - ratios_at q) % 4) ≡ byte (outer_in false q place) (i - bits_at q)
+      strip_ratio : ratios_at q ≤ i → i < ratios_at q + 16 → byte_of o 4 1 ((i - ratios_at q) % 4) ≡ byte (outer_in Strip q place) (i - bits_at q)
       strip_ratio l m = sym (past_C l ∙ ratios_value o [] (ratios_at q) i l m)
 
-  module _ (tiles : q.cut.tiled ≡ true) where
+  module _ (tiles : q.cut.kind ≡ Tile) where
     b162 : bits_at q ≡ 162
-    b162 = ap (λ m. 6 + 12 * m) (cond-true q.cut.tiled 13 12 tiles)
+    b162 = ap (λ m. 6 + 12 * m) (cond-true (are_tiles q.cut.kind) 13 12 (ap are_tiles tiles))
 
     b_o : offsets_at q ≡ 178 + size
-    b_o = ap (λ m. m + size) (cond-true q.cut.tiled 178 150 tiles)
+    b_o = ap (λ m. m + size) (cond-true (are_tiles q.cut.kind) 178 150 (ap are_tiles tiles))
 
     b_r : ratios_at q ≡ 162 + size
-    b_r = cond-true q.cut.tiled (162 + size) (150 + size + 2 * L) tiles
+    b_r = cond-true (are_tiles q.cut.kind) (162 + size) (150 + size + 2 * L) (ap are_tiles tiles)
 
     module _ (i : ℕ) where
-      beyond_B : ratios_at q ≤ i → byte (outer_in true q place) (i - bits_at q) ≡ byte (R ++ (R ++ (O 324 ++ (C 325 ++ [])))) (i - ratios_at q)
+      beyond_B : ratios_at q ≤ i → byte (outer_in Tile q place) (i - bits_at q) ≡ byte (R ++ (R ++ (O 324 ++ (C 325 ++ [])))) (i - ratios_at q)
       beyond_B l = skip B (R ++ (R ++ (O 324 ++ (C 325 ++ [])))) (bits_at q) (ratios_at q) i (omega (arith, b162, b_r, length_B)) l
 
-      beyond_R : offsets_at q ≤ i → byte (outer_in true q place) (i - bits_at q) ≡ byte (O 324 ++ (C 325 ++ [])) (i - offsets_at q)
+      beyond_R : offsets_at q ≤ i → byte (outer_in Tile q place) (i - bits_at q) ≡ byte (O 324 ++ (C 325 ++ [])) (i - offsets_at q)
       beyond_R l =
           beyond_B (omega (arith, b_r, b_o))
           ∙ skip R (R ++ (O 324 ++ (C 325 ++ []))) (ratios_at q) (ratios_at q + 8) i refl (omega (arith, b_r, b_o))
           ∙ skip R (O 324 ++ (C 325 ++ [])) (ratios_at q + 8) (offsets_at q) i (omega (arith, b_r, b_o)) l
 
-      beyond_O : counts_at q ≤ i → byte (outer_in true q place) (i - bits_at q) ≡ byte (C 325 ++ []) (i - counts_at q)
+      beyond_O : counts_at q ≤ i → byte (outer_in Tile q place) (i - bits_at q) ≡ byte (C 325 ++ []) (i - counts_at q)
       beyond_O l = beyond_R (omega arith) ∙ skip (O 324) (C 325 ++ []) (offsets_at q) (counts_at q) i (omega (arith, length_O 324)) l
 
-      tile_bits : bits_at q ≤ i → i < bits_at q + size → byte_of o 2 q.kind.bits ((i - bits_at q) % 2) ≡ byte (outer_in true q place) (i - bits_at q)
+      tile_bits : bits_at q ≤ i → i < bits_at q + size → byte_of o 2 q.kind.bits ((i - bits_at q) % 2) ≡ byte (outer_in Tile q place) (i - bits_at q)
       tile_bits l m = sym (stop B (R ++ (R ++ (O 324 ++ (C 325 ++ [])))) (bits_at q) (bits_at q + size) i (omega (arith, length_B)) l m ∙ bits_value q (i - bits_at q) (omega arith))
 
-      tile_offset : offsets_at q ≤ i → i < counts_at q → byte_of o 4 (offset_of q place ((i - offsets_at q) / 4)) ((i - offsets_at q) % 4) ≡ byte (outer_in true q place) (i - bits_at q)
+      tile_offset : offsets_at q ≤ i → i < counts_at q → byte_of o 4 (offset_of q place ((i - offsets_at q) / 4)) ((i - offsets_at q) % 4) ≡ byte (outer_in Tile q place) (i - bits_at q)
       tile_offset l m =
           sym (beyond_R l ∙ stop (O 324) (C 325 ++ []) (offsets_at q) (counts_at q) i (omega (arith, length_O 324)) l m
           ∙ table_value o 324 n offset (i - offsets_at q) (omega arith))
 
-      tile_count : counts_at q ≤ i → i < counts_at q + L → byte_of o 4 (segment_size q ((i - counts_at q) / 4)) ((i - counts_at q) % 4) ≡ byte (outer_in true q place) (i - bits_at q)
+      tile_count : counts_at q ≤ i → i < counts_at q + L → byte_of o 4 (segment_size q ((i - counts_at q) / 4)) ((i - counts_at q) % 4) ≡ byte (outer_in Tile q place) (i - bits_at q)
       tile_count l m =
           sym (beyond_O l ∙ stop (C 325) [] (counts_at q) (counts_at q + L) i (omega (arith, length_C 325)) l m
           ∙ table_value o 325 n (segment_size q) (i - counts_at q) (omega arith))
 
-      tile_ratio : ratios_at q ≤ i → i < ratios_at q + 16 → byte_of o 4 1 ((i - ratios_at q) % 4) ≡ byte (outer_in true q place) (i - bits_at q)
+      tile_ratio : ratios_at q ≤ i → i < ratios_at q + 16 → byte_of o 4 1 ((i - ratios_at q) % 4) ≡ byte (outer_in Tile q place) (i - bits_at q)
       tile_ratio l m = sym (beyond_B l ∙ ratios_value o (O 324 ++ (C 325 ++ [])) (ratios_at q) i l m)
 
 -- the same of strips and of tiles
 module _ (q : Outline) (place i : ℕ) where
-  pub bits_byte : (t : Bool) → q.cut.tiled ≡ t → bits_at q ≤ i → i < bits_at q + bits_size q.kind
+  pub bits_byte : (t : SegmentKind) → q.cut.kind ≡ t → bits_at q ≤ i → i < bits_at q + bits_size q.kind
       → byte_of q.endian 2 q.kind.bits ((i - bits_at q) % 2) ≡ byte (outer_in t q place) (i - bits_at q)
-  bits_byte true e = tile_bits q place e i
-  bits_byte false e = strip_bits q place e i
+  bits_byte Tile e = tile_bits q place e i
+  bits_byte Strip e = strip_bits q place e i
 
-  pub offset_byte : (t : Bool) → q.cut.tiled ≡ t → offsets_at q ≤ i → i < counts_at q
+  pub offset_byte : (t : SegmentKind) → q.cut.kind ≡ t → offsets_at q ≤ i → i < counts_at q
       → byte_of q.endian 4 (offset_of q place ((i - offsets_at q) / 4)) ((i - offsets_at q) % 4) ≡ byte (outer_in t q place) (i - bits_at q)
-  offset_byte true e = tile_offset q place e i
-  offset_byte false e = strip_offset q place e i
+  offset_byte Tile e = tile_offset q place e i
+  offset_byte Strip e = strip_offset q place e i
 
-  pub count_byte : (t : Bool) → q.cut.tiled ≡ t → counts_at q ≤ i → i < counts_at q + longs_size (segments_in q)
+  pub count_byte : (t : SegmentKind) → q.cut.kind ≡ t → counts_at q ≤ i → i < counts_at q + longs_size (segments_in q)
       → byte_of q.endian 4 (segment_size q ((i - counts_at q) / 4)) ((i - counts_at q) % 4) ≡ byte (outer_in t q place) (i - bits_at q)
-  count_byte true e = tile_count q place e i
-  count_byte false e = strip_count q place e i
+  count_byte Tile e = tile_count q place e i
+  count_byte Strip e = strip_count q place e i
 
-  pub ratio_byte : (t : Bool) → q.cut.tiled ≡ t → ratios_at q ≤ i → i < ratios_at q + 16
+  pub ratio_byte : (t : SegmentKind) → q.cut.kind ≡ t → ratios_at q ≤ i → i < ratios_at q + 16
       → byte_of q.endian 4 1 ((i - ratios_at q) % 4) ≡ byte (outer_in t q place) (i - bits_at q)
-  ratio_byte true e = tile_ratio q place e i
-  ratio_byte false e = strip_ratio q place e i
+  ratio_byte Tile e = tile_ratio q place e i
+  ratio_byte Strip e = strip_ratio q place e i
 
 -- what is not a value of the others is one of the RATIONALs
-pub ratio_left : (q : Outline) (i : ℕ) (t : Bool) → q.cut.tiled ≡ t → bits_at q + bits_size q.kind ≤ i → i < head_size q
+pub ratio_left : (q : Outline) (i : ℕ) (t : SegmentKind) → q.cut.kind ≡ t → bits_at q + bits_size q.kind ≤ i → i < head_size q
     → (offsets_at q ≤ i → i < counts_at q → ⊥) → (counts_at q ≤ i → i < counts_at q + longs_size (segments_in q) → ⊥)
     → (ratios_at q ≤ i) × (i < ratios_at q + 16)
-ratio_left q i true e l m f g =
+ratio_left q i Tile e l m f g =
     ⊎_elim
     (λ k. let a = b162 q 0 e in let b = b_o q 0 e in let c = b_r q 0 e in (omega arith, omega arith))
     (λ k. absurd (⊎_elim (λ h. f k h) (λ h. g h (omega (arith, b162 q 0 e, b_o q 0 e))) (cases_lt i (counts_at q))))
     (cases_lt i (offsets_at q))
-ratio_left q i false e l m f g =
+ratio_left q i Strip e l m f g =
     ⊎_elim
     (λ k. absurd (⊎_elim (λ h. f (omega (arith, a150 q 0 e, a_o q 0 e)) h) (λ h. g h (omega (arith, a_o q 0 e, a_r q 0 e))) (cases_lt i (counts_at q))))
     (λ k. let a = a150 q 0 e in let b = a_o q 0 e in let c = a_r q 0 e in (k, omega arith))

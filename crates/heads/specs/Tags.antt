@@ -1,5 +1,8 @@
 -- The tags of a draft's directory. Assumes nothing.
-use Rattle.std.specs.Prelude.{ℕ, Bool, true, false, cond, List, [], ◌∷◌, slice_index_or}
+use Rattle.std.specs.Prelude.{ℕ, cond, List, [], ◌∷◌, slice_index_or}
+use Rattle.pages.specs.declared.layout.SegmentKind.{SegmentKind}
+use Rattle.pages.specs.declared.layout.SegmentKind.TheVariants.{Strip, Tile}
+use Rattle.pages.specs.Tags.{are_tiles}
 use Rattle.heads.specs.declared.tags.Tag.{Tag}
 use Rattle.heads.specs.declared.tags.Tag.TheVariants.{ImageWidth, ImageLength, BitsPerSample, Compression, Photometric, StripOffsets, SamplesPerPixel, RowsPerStrip, StripByteCounts, XResolution, YResolution, ResolutionUnit, TileWidth, TileLength, TileOffsets, TileByteCounts}
 
@@ -22,17 +25,17 @@ tag_number TileOffsets = 324
 tag_number TileByteCounts = 325
 
 -- the tags of strips or of tiles, in order
-abbrev pub tags_of : Bool → List Tag
-tags_of false =
+abbrev pub tags_of : SegmentKind → List Tag
+tags_of Strip =
     ImageWidth ∷ ImageLength ∷ BitsPerSample ∷ Compression ∷ Photometric ∷ StripOffsets
     ∷ SamplesPerPixel ∷ RowsPerStrip ∷ StripByteCounts ∷ XResolution ∷ YResolution ∷ ResolutionUnit ∷ []
-tags_of true =
+tags_of Tile =
     ImageWidth ∷ ImageLength ∷ BitsPerSample ∷ Compression ∷ Photometric ∷ SamplesPerPixel
     ∷ XResolution ∷ YResolution ∷ ResolutionUnit ∷ TileWidth ∷ TileLength ∷ TileOffsets ∷ TileByteCounts ∷ []
 
 -- how many they are, and tag e of them
-abbrev pub count : Bool → ℕ
-count tiled = cond tiled 13 12
+abbrev pub count : SegmentKind → ℕ
+count kind = cond (are_tiles kind) 13 12
 
-abbrev pub tag_at : Bool → ℕ → Tag
-tag_at tiled e = slice_index_or (tags_of tiled) e ImageWidth
+abbrev pub tag_at : SegmentKind → ℕ → Tag
+tag_at kind e = slice_index_or (tags_of kind) e ImageWidth

@@ -4,30 +4,31 @@ ghost use Rattle.octets.specs.Rows.{byte};
 ghost use Rattle.heads.specs.Contents.{kind_of, count_of, last_of, entry_of};
 
 use crate::numbers::number_byte;
+use entries::field_type::FieldType;
 use octets::endian::Endian;
 
-// What an entry says after its tag: one SHORT or one LONG, or how many SHORTs or LONGs or that one RATIONAL stands at
-// a place. Of a LONG and of a place the four lowest bytes are written.
+// What an entry says after its tag: one SHORT or one LONG, or how many values of a type stand at a place. Of a LONG and
+// of a place the four lowest bytes are written.
 #[derive(Clone, Copy)]
 pub enum Content {
     Short(u16),
     Long(u64),
-    Shorts(u32, u64),
-    Longs(u32, u64),
-    Rational(u64),
+    Placed {
+        kind: FieldType,
+        count: u32,
+        place: u64,
+    },
 }
 
 impl Content {
-    // The number of the type.
-    pub fn kind(self) -> u16
+    // The type of the values.
+    pub fn kind(self) -> FieldType
         ensures { result ≡ kind_of self }
     {
         match self {
-            Content::Short(_) => 3,
-            Content::Long(_) => 4,
-            Content::Shorts(_, _) => 3,
-            Content::Longs(_, _) => 4,
-            Content::Rational(_) => 5,
+            Content::Short(_) => FieldType::Short,
+            Content::Long(_) => FieldType::Long,
+            Content::Placed { kind, .. } => kind,
         }
     }
 
@@ -36,11 +37,8 @@ impl Content {
         ensures { result ≡ count_of self }
     {
         match self {
-            Content::Short(_) => 1,
-            Content::Long(_) => 1,
-            Content::Shorts(count, _) => count,
-            Content::Longs(count, _) => count,
-            Content::Rational(_) => 1,
+            Content::Short(_) | Content::Long(_) => 1,
+            Content::Placed { count, .. } => count,
         }
     }
 
@@ -58,9 +56,7 @@ impl Content {
                 }
             }
             Content::Long(number) => number_byte(endian, 4, number, t),
-            Content::Shorts(_, place) => number_byte(endian, 4, place, t),
-            Content::Longs(_, place) => number_byte(endian, 4, place, t),
-            Content::Rational(place) => number_byte(endian, 4, place, t),
+            Content::Placed { place, .. } => number_byte(endian, 4, place, t),
         }
     }
 }
@@ -73,7 +69,7 @@ pub fn entry_byte(endian: Endian, tag: u16, content: Content, b: u32) -> u8
     if b < 2 {
         number_byte(endian, 2, tag as u64, b)
     } else if b < 4 {
-        number_byte(endian, 2, content.kind() as u64, b - 2)
+        number_byte(endian, 2, content.kind().number() as u64, b - 2)
     } else if b < 8 {
         number_byte(endian, 4, content.count() as u64, b - 4)
     } else {

@@ -6,6 +6,7 @@ ghost use Rattle.heads.specs.Contents.{lower_bytes};
 use octets::endian::Endian;
 
 // Byte t of the `size` lowest bytes of a number.
+// No Word of octets: numbers of more than 32 bits come too, and a narrower type would ask more of callers.
 pub fn number_byte(endian: Endian, size: u32, number: u64, t: u32) -> u8
     requires one { t < size }
     requires few { size ≤ 8 }

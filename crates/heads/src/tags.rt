@@ -1,25 +1,28 @@
 // The tags of a draft's directory, in order.
-ghost use Rattle.std.specs.Prelude.{◌≡◌, ◌<◌};
-ghost use Rattle.heads.specs.Tags.{tag_number, count, tag_at};
+ghost use Rattle.std.specs.Prelude.{◌≡◌, length};
+ghost use Rattle.heads.specs.Tags.{tag_number, tags_of, count};
 
+use pages::layout::SegmentKind;
+
+// A tag, by its number.
 #[derive(Clone, Copy)]
 pub enum Tag {
-    ImageWidth,
-    ImageLength,
-    BitsPerSample,
-    Compression,
-    Photometric,
-    StripOffsets,
-    SamplesPerPixel,
-    RowsPerStrip,
-    StripByteCounts,
-    XResolution,
-    YResolution,
-    ResolutionUnit,
-    TileWidth,
-    TileLength,
-    TileOffsets,
-    TileByteCounts,
+    ImageWidth = 256,
+    ImageLength = 257,
+    BitsPerSample = 258,
+    Compression = 259,
+    Photometric = 262,
+    StripOffsets = 273,
+    SamplesPerPixel = 277,
+    RowsPerStrip = 278,
+    StripByteCounts = 279,
+    XResolution = 282,
+    YResolution = 283,
+    ResolutionUnit = 296,
+    TileWidth = 322,
+    TileLength = 323,
+    TileOffsets = 324,
+    TileByteCounts = 325,
 }
 
 #[rattlefmt::skip]
@@ -40,42 +43,17 @@ impl Tag {
     pub fn number(self) -> u16
         ensures { result ≡ tag_number self }
     {
-        match self {
-            Tag::ImageWidth => 256,
-            Tag::ImageLength => 257,
-            Tag::BitsPerSample => 258,
-            Tag::Compression => 259,
-            Tag::Photometric => 262,
-            Tag::StripOffsets => 273,
-            Tag::SamplesPerPixel => 277,
-            Tag::RowsPerStrip => 278,
-            Tag::StripByteCounts => 279,
-            Tag::XResolution => 282,
-            Tag::YResolution => 283,
-            Tag::ResolutionUnit => 296,
-            Tag::TileWidth => 322,
-            Tag::TileLength => 323,
-            Tag::TileOffsets => 324,
-            Tag::TileByteCounts => 325,
-        }
+        self as u16
     }
-}
 
-// How many entries the directory of strips or of tiles has.
-pub fn tag_count(tiled: bool) -> u32
-    ensures { result ≡ count tiled }
-{
-    if tiled { 13 } else { 12 }
-}
-
-// The tag of entry e, counted from 0, of strips or of tiles.
-pub fn tag_of(tiled: bool, e: u32) -> Tag
-    requires { e < count tiled }
-    ensures { result ≡ tag_at tiled e }
-{
-    if tiled {
-        TILES[e as usize]
-    } else {
-        STRIPS[e as usize]
+    // The tags of the directory of strips or of tiles, in order.
+    pub fn list(kind: SegmentKind) -> &'static [Tag]
+        ensures tags { result.now ≡ tags_of kind }
+        ensures length { length result.now ≡ count kind }
+    {
+        match kind {
+            SegmentKind::Strip => &STRIPS,
+            SegmentKind::Tile => &TILES,
+        }
     }
 }

@@ -4,10 +4,9 @@ use Rattle.std.proofs.Common.{sym, ap, subst, ◌∙◌, inl, inr, ⊎_elim, ari
 use Rattle.std.proofs.lemmas.List.FromFn.{length-map-range_with_len, get_or-map-range_with_len}
 use Rattle.std.proofs.lemmas.List.{ext_get_or}
 use Rattle.std.proofs.lemmas.Bool.{cases_Bool, cond-true, cond-false}
-use Rattle.hold.specs.declared.slots.Slot.{Slot}
 use Rattle.octets.specs.Sectors.{sector, In, Lists}
 use Rattle.store.specs.Rules.{Laws}
-use Rattle.hold.specs.Kept.{kept, slot_of, over, byte, overlaid, with_kept}
+use Rattle.hold.specs.Kept.{Slot, content, kept, slot_of, over, byte, overlaid, with_kept}
 use Rattle.octets.proofs.Patches.{length_sector, get_or_sector}
 use Rattle.octets.proofs.Contents.{in_same}
 
@@ -19,7 +18,7 @@ pub get_or_overlaid : (slots : List Slot) (below : List ℕ) (i d : ℕ) → i <
 unfolding overlaid
 get_or_overlaid slots below i d h = get_or-map-range_with_len (byte slots below) 0 (length below) i i d h (omega arith)
 
-pub byte_kept : (slots : List Slot) (below : List ℕ) (i : ℕ) → kept slots (i / 512) ≡ true → byte slots below i ≡ slice_index (slot_of slots (i / 512)).bytes (i % 512)
+pub byte_kept : (slots : List Slot) (below : List ℕ) (i : ℕ) → kept slots (i / 512) ≡ true → byte slots below i ≡ slice_index (content (slot_of slots (i / 512))) (i % 512)
 unfolding over
 byte_kept slots below i h = cond-true _ _ _ h
 

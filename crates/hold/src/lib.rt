@@ -4,12 +4,13 @@
 mod slots;
 
 ghost use Rattle.std.specs.Prelude.{◌≡◌, ℕ, ◌+◌, ◌-◌, ◌*◌, ◌/◌, ◌%◌, ◌<◌, ◌≤◌, true, false, length, is_ok, ◌≢◌, slice_index};
-ghost use Rattle.hold.specs.Kept.{kept, OneInEight, overlaid, with_kept, Quiet, Put};
+ghost use Rattle.hold.specs.Kept.{kept, OneInEight};
+ghost use Rattle.hold.specs.Changes.{seen_by, may_by, trail_by, Quiet, Put};
 ghost use Rattle.hold.specs.KeptLaws.{kept_laws};
 ghost use Rattle.store.specs.Rules.{Answered, written, NoGain, Gain, Gained, Alone};
 ghost use Rattle.octets.specs.Sectors.{laid};
 
-use self::slots::{Table, first_byte};
+use self::slots::{Sector, Table};
 use faults::fault::{Check, Fault};
 use store::slices::within;
 use store::traits::{Card, Store};
@@ -43,9 +44,9 @@ impl<C: Card> Hold<C> {
 
     // Settles, and hands out the card below, with all that was seen.
     pub fn into_below(mut self) -> C
-        ensures same { C.Store.seen result ≡ overlaid self.table.slots (C.Store.seen self.below) }
+        ensures same { C.Store.seen result ≡ seen_by C.Store self }
         ensures lists { Alone (C.Store.seen result) (C.Store.may result) }
-        ensures trails { NoGain (with_kept self.table.slots (C.Store.seen self.below) (C.Store.trail self.below)) (C.Store.trail result) }
+        ensures trails { NoGain (trail_by C.Store self) (C.Store.trail result) }
     {
         self.settle();
         self.below
@@ -54,22 +55,20 @@ impl<C: Card> Hold<C> {
     // Writes the sector of slot `i` below, if the slot keeps one, and marks the slot free.
     fn flush(&mut self, i: usize)
         requires { i < 8 }
-        ensures quiet { Quiet self.old.table.slots self.new.table.slots (C.Store.seen self.old.below) (C.Store.seen self.new.below) (C.Store.may self.old.below) (C.Store.may self.new.below) (C.Store.trail self.old.below) (C.Store.trail self.new.below) }
+        ensures quiet { Quiet C.Store self.old self.new }
         ensures others { (s : ℕ) → (s % 8 ≢ i) → kept self.new.table.slots s ≡ kept self.old.table.slots s }
         ensures free { (s : ℕ) → s % 8 ≡ i → kept self.new.table.slots s ≡ false }
     {
-        let tag = self.table.slots[i].tag;
-        if let Some(tag) = tag {
-            let bytes = self.table.slots[i].bytes;
-            write_sector(&mut self.below, first_byte(tag, i), &bytes);
-            self.table.slots[i].free();
+        if let Some(sector) = self.table.slots[i] {
+            self.table.slots[i] = None;
+            write_sector(&mut self.below, sector.first_byte(i), &sector.bytes);
         }
     }
 
     // Makes the table keep the sector as it is seen.
     fn claim(&mut self, sector: u32)
         requires { 512 * sector < length (C.Store.seen self.old.below) }
-        ensures quiet { Quiet self.old.table.slots self.new.table.slots (C.Store.seen self.old.below) (C.Store.seen self.new.below) (C.Store.may self.old.below) (C.Store.may self.new.below) (C.Store.trail self.old.below) (C.Store.trail self.new.below) }
+        ensures quiet { Quiet C.Store self.old self.new }
         ensures kept { kept self.new.table.slots sector ≡ true }
     {
         if self.table.keeps(sector) {
@@ -79,7 +78,10 @@ impl<C: Card> Hold<C> {
         self.flush(i);
         let mut bytes = [0; 512];
         read_sector(&mut self.below, 512 * sector, &mut bytes);
-        self.table.slots[i].fill(sector / 8, bytes);
+        self.table.slots[i] = Some(Sector {
+            tag: sector / 8,
+            bytes,
+        });
     }
 
     // Writes bytes that lie in one sector, and keeps that sector.
@@ -87,21 +89,23 @@ impl<C: Card> Hold<C> {
         requires within { place + length bytes.now ≤ length (C.Store.seen self.old.below) }
         requires some { 0 < length bytes.now }
         requires one { place % 512 + length bytes.now ≤ 512 }
-        ensures put { Put self.old.table.slots self.new.table.slots (C.Store.seen self.old.below) (C.Store.seen self.new.below) (C.Store.may self.old.below) (C.Store.may self.new.below) (C.Store.trail self.old.below) (C.Store.trail self.new.below) place bytes.now }
+        ensures put { Put C.Store self.old self.new place bytes.now }
         ensures kept { kept self.new.table.slots (place / 512) ≡ true }
     {
         let sector = place / 512;
         self.claim(sector);
-        self.table.slots[(sector % 8) as usize].patch((place % 512) as usize, bytes);
+        if let Some(kept) = &mut self.table.slots[(sector % 8) as usize] {
+            kept.patch((place % 512) as usize, bytes);
+        }
     }
 }
 
 impl<C: Card> Store for Hold<C> {
-    ghost seen = { λ h. overlaid h.table.slots (C.Store.seen h.below) };
+    ghost seen = { seen_by C.Store };
 
-    ghost may = { λ h. with_kept h.table.slots (C.Store.seen h.below) (C.Store.may h.below) };
+    ghost may = { may_by C.Store };
 
-    ghost trail = { λ h. with_kept h.table.slots (C.Store.seen h.below) (C.Store.trail h.below) };
+    ghost trail = { trail_by C.Store };
 
     ghost laws = { kept_laws (λ h. h.table.slots) (λ h. h.below) C.Store.laws };
 
@@ -117,11 +121,12 @@ impl<C: Card> Store for Hold<C> {
 
     // It leaves no sector kept.
     fn settle(&mut self)
-        ensures same { overlaid self.new.table.slots (C.Store.seen self.new.below) ≡ overlaid self.old.table.slots (C.Store.seen self.old.below) }
-        ensures lists { Alone (overlaid self.new.table.slots (C.Store.seen self.new.below)) (with_kept self.new.table.slots (C.Store.seen self.new.below) (C.Store.may self.new.below)) }
-        ensures trails { NoGain (with_kept self.old.table.slots (C.Store.seen self.old.below) (C.Store.trail self.old.below)) (with_kept self.new.table.slots (C.Store.seen self.new.below) (C.Store.trail self.new.below)) }
+        ensures same { seen_by C.Store self.new ≡ seen_by C.Store self.old }
+        ensures lists { Alone (seen_by C.Store self.new) (may_by C.Store self.new) }
+        ensures trails { NoGain (trail_by C.Store self.old) (trail_by C.Store self.new) }
         ensures none { (s : ℕ) → kept self.new.table.slots s ≡ false }
     {
+        // `flush` writes to the card below too, so it is given the slot's number and not the slot.
         for i in 0..8 {
             self.flush(i);
         }
@@ -132,16 +137,17 @@ impl<C: Card> Store for Hold<C> {
 impl<C: Card> Card for Hold<C> {
     // It leaves the sector that it touched last kept.
     fn write(&mut self, place: u32, bytes: &[u8]) -> Result<(), Fault>
-        ensures answer { Answered result (overlaid self.old.table.slots (C.Store.seen self.old.below)) place (length bytes.now) }
-        ensures put { overlaid self.new.table.slots (C.Store.seen self.new.below) ≡ written result (overlaid self.old.table.slots (C.Store.seen self.old.below)) place bytes.now }
-        ensures lists { Gained result (overlaid self.new.table.slots (C.Store.seen self.new.below)) place (length bytes.now) (with_kept self.old.table.slots (C.Store.seen self.old.below) (C.Store.may self.old.below)) (with_kept self.new.table.slots (C.Store.seen self.new.below) (C.Store.may self.new.below)) }
-        ensures trails { Gained result (overlaid self.new.table.slots (C.Store.seen self.new.below)) place (length bytes.now) (with_kept self.old.table.slots (C.Store.seen self.old.below) (C.Store.trail self.old.below)) (with_kept self.new.table.slots (C.Store.seen self.new.below) (C.Store.trail self.new.below)) }
+        ensures answer { Answered result (seen_by C.Store self.old) place (length bytes.now) }
+        ensures put { seen_by C.Store self.new ≡ written result (seen_by C.Store self.old) place bytes.now }
+        ensures lists { Gained result (seen_by C.Store self.new) place (length bytes.now) (may_by C.Store self.old) (may_by C.Store self.new) }
+        ensures trails { Gained result (seen_by C.Store self.new) place (length bytes.now) (trail_by C.Store self.old) (trail_by C.Store self.new) }
         ensures last { is_ok result ≡ true → 0 < length bytes.now → kept self.new.table.slots ((place + length bytes.now - 1) / 512) ≡ true }
     {
         if !within(self.length(), place, bytes.len()) {
             return Err(Check::Past.fault());
         }
         let mut done = 0;
+        // The parts end where sectors of the card end, so `chunks` of the bytes are not the parts.
         while done < bytes.len() {
             let at = place + done as u32;
             let room = 512 - (at % 512) as usize;

@@ -1,25 +1,26 @@
 // Sectors kept in memory: sector s only in slot s % 8, with the tag s / 8.
-ghost use Rattle.std.specs.Prelude.{◌≡◌, ℕ, ◌+◌, ◌-◌, ◌*◌, ◌/◌, ◌%◌, ◌^◌, ◌<◌, ◌≤◌, false, List, length, Some, None, ◌≢◌, slice_index};
+ghost use Rattle.std.specs.Prelude.{◌≡◌, ℕ, ◌+◌, ◌-◌, ◌*◌, ◌/◌, ◌%◌, ◌^◌, ◌<◌, ◌≤◌, false, List, length, ◌≢◌, slice_index};
 ghost use Rattle.octets.specs.Sectors.{patched};
 ghost use Rattle.hold.specs.Kept.{kept, over};
 
-// Room for one sector, free where it has no tag.
+// A kept sector: its tag and its content.
 #[derive(Clone, Copy)]
-pub struct Slot {
-    pub tag: Option<u32>,
+pub struct Sector {
+    pub tag: u32,
     pub bytes: [u8; 512],
 }
 
-impl Slot {
-    // Keeps the sector of this tag, with this content.
-    pub fn fill(&mut self, tag: u32, bytes: [u8; 512])
-        ensures { self.new ≡ record { tag = Some tag; bytes = bytes } }
+impl Sector {
+    // Where it begins, kept in slot `i`.
+    pub fn first_byte(&self, i: usize) -> u64
+        requires { i < 8 }
+        ensures is { result ≡ 512 * (8 * self.now.tag + i) }
+        ensures bound { result < 2 ^ 45 }
     {
-        self.tag = Some(tag);
-        self.bytes = bytes;
+        512 * (8 * u64::from(self.tag) + i as u64)
     }
 
-    // Replaces the bytes of the kept sector from `offset` on.
+    // Replaces its bytes from `offset` on.
     pub fn patch(&mut self, offset: usize, bytes: &[u8])
         requires { offset + length bytes.now ≤ 512 }
         ensures len { length self.old.bytes ≡ 512 }
@@ -30,17 +31,20 @@ impl Slot {
         self.bytes[offset..offset + count].copy_from_slice(bytes);
     }
 
-    // Keeps nothing any more.
-    pub fn free(&mut self)
-        ensures { self.new ≡ record { tag = None; bytes = self.old.bytes } }
+    // Puts it, kept in slot `i`, over the buffer, which holds the bytes from `place` on.
+    fn overlay(&self, i: usize, place: u32, buffer: &mut [u8])
+        requires slot { i < 8 }
+        requires short { place + length buffer.old < 2 ^ 32 }
+        ensures here { (k : ℕ) → k < length buffer.old → (place + k) / 512 ≡ 8 * self.now.tag + i → slice_index buffer.new k ≡ slice_index self.now.bytes ((place + k) % 512) }
+        ensures others { (k : ℕ) → k < length buffer.old → ((place + k) / 512 ≢ 8 * self.now.tag + i) → slice_index buffer.new k ≡ slice_index buffer.old k }
     {
-        self.tag = None;
+        lay(&self.bytes, self.first_byte(i), u64::from(place), buffer);
     }
 }
 
 #[derive(Clone, Copy)]
 pub struct Table {
-    pub slots: [Slot; 8],
+    pub slots: [Option<Sector>; 8],
 }
 
 impl Table {
@@ -48,36 +52,18 @@ impl Table {
     pub fn new() -> Self
         ensures { (s : ℕ) → kept result.slots s ≡ false }
     {
-        let free = Slot {
-            tag: None,
-            bytes: [0; 512],
-        };
-        Table { slots: [free; 8] }
+        Table { slots: [None; 8] }
     }
+
     // Puts what is kept over the buffer, which holds the bytes from `place` on as they are below.
     pub fn overlay(&self, place: u32, buffer: &mut [u8])
         requires { place + length buffer.old < 2 ^ 32 }
         ensures { (k : ℕ) → k < length buffer.old → slice_index buffer.new k ≡ over self.now.slots (place + k) (slice_index buffer.old k) }
     {
-        for i in 0..8 {
-            self.overlay_slot(i, place, buffer);
-        }
-    }
-
-    // The same for slot `i` alone.
-    fn overlay_slot(&self, i: usize, place: u32, buffer: &mut [u8])
-        requires { (i < 8) × (place + length buffer.old < 2 ^ 32) }
-        ensures here { (k : ℕ) → k < length buffer.old → (place + k) / 512 % 8 ≡ i → slice_index buffer.new k ≡ over self.now.slots (place + k) (slice_index buffer.old k) }
-        ensures others { (k : ℕ) → k < length buffer.old → ((place + k) / 512 % 8 ≢ i) → slice_index buffer.new k ≡ slice_index buffer.old k }
-    {
-        let tag = self.slots[i].tag;
-        if let Some(tag) = tag {
-            lay(
-                &self.slots[i].bytes,
-                first_byte(tag, i),
-                u64::from(place),
-                buffer,
-            );
+        for (i, slot) in self.slots.iter().enumerate() {
+            if let Some(sector) = slot {
+                sector.overlay(i, place, buffer);
+            }
         }
     }
 
@@ -85,17 +71,15 @@ impl Table {
     pub fn keeps(&self, sector: u32) -> bool
         ensures { result ≡ kept self.now.slots sector }
     {
-        let tag = self.slots[(sector % 8) as usize].tag;
-        match tag {
-            Some(tag) => tag == sector / 8,
-            None => false,
-        }
+        let slot = &self.slots[(sector % 8) as usize];
+        slot.as_ref().is_some_and(|kept| kept.tag == sector / 8)
     }
 }
 
 // Copies those of the bytes from `start` on that lie in the buffer, which stands for the bytes from `place` on.
 fn lay(bytes: &[u8; 512], start: u64, place: u64, buffer: &mut [u8])
-    requires { (start + 512 < 2 ^ 63) × (place + length buffer.old < 2 ^ 63) }
+    requires bytes { start + 512 < 2 ^ 63 }
+    requires buffer { place + length buffer.old < 2 ^ 63 }
     ensures inside { (k : ℕ) → k < length buffer.old → start ≤ place + k → place + k < start + 512 → slice_index buffer.new k ≡ slice_index bytes.now (place + k - start) }
     ensures outside { (k : ℕ) → k < length buffer.old → (start ≤ place + k → place + k < start + 512 → ⊥) → slice_index buffer.new k ≡ slice_index buffer.old k }
 {
@@ -105,13 +89,4 @@ fn lay(bytes: &[u8; 512], start: u64, place: u64, buffer: &mut [u8])
         let part = &bytes[(from - start) as usize..(to - start) as usize];
         buffer[(from - place) as usize..(to - place) as usize].copy_from_slice(part);
     }
-}
-
-// Where the sector of slot `i` with this tag begins.
-pub fn first_byte(tag: u32, i: usize) -> u64
-    requires { i < 8 }
-    ensures is { result ≡ 512 * (8 * tag + i) }
-    ensures bound { result < 2 ^ 45 }
-{
-    512 * (8 * tag as u64 + i as u64)
 }

@@ -1,13 +1,14 @@
 -- What the calls of a holder come to.
 use Rattle.std.proofs.Common.{◌≡◌, ℕ, ◌+◌, ◌≤◌, true, cond, List, length, Some, None, Ok, Err, Option, Result, sym, refl, ap, ◌∙◌, subst, arith}
 use Rattle.faults.specs.declared.fault.Fault.{Fault}
-use Rattle.octets.specs.Sectors.{Lists}
 use Rattle.octets.specs.declared.endian.Endian.{Endian}
 use Rattle.octets.specs.declared.endian.Endian.TheVariants.{Little, Big}
-use Rattle.store.specs.Rules.{Laws}
+use Rattle.store.specs.declared.traits.Store.{Ghosts}
+use Rattle.store.specs.Looking.{Looked}
 use Rattle.pages.specs.declared.layout.Layout.{Layout}
 use Rattle.plans.specs.Blocks.{header}
 use Rattle.drafts.specs.declared.state.Draft.{Draft}
+use Rattle.drafts.specs.declared.state.Stage.{Stage}
 use Rattle.drafts.specs.declared.state.Stage.TheVariants.{Carried, Rested, Switched}
 use Rattle.drafts.specs.declared.call.Call.TheVariants.{Rest, Switch}
 use Rattle.drafts.specs.declared.call.Reply.TheVariants.{Done}
@@ -16,13 +17,21 @@ use Rattle.drafts.specs.Wrote.{Wrote}
 use Rattle.drafts.specs.Steps.{Held, held, world, Step, Steady, Fitting, Under, sectors, size_of, allowed, stage_of, is_carried, is_rested, moved_to, staged, switch_write, switch_write_by}
 use Rattle.stored.specs.Pixels.{picture_of}
 use Rattle.drafts.proofs.Stepping.{settled_step, wrote_step}
-use Rattle.holder.specs.Told.{WroteBy}
+use Rattle.holder.specs.Told.{WroteBy, OutAt}
 
-pub lawful : {S : Type 0} {seen : S → List ℕ} {may trail : S → Lists} → Laws seen may trail → (x : S) → Lawful (mem_of seen may trail x)
-lawful l x = record { short = l.short x; held = l.held x; trailed = l.trailed x }
+pub lawful : {S : Type 0} (s : Ghosts S) (x : S) → Lawful (mem_of s x)
+lawful s x = record { short = s.laws.short x; held = s.laws.held x; trailed = s.laws.trailed x }
+
+-- a call that only reads a store is quiet
+pub looked_quiet : {S : Type 0} (s : Ghosts S) {x y : S} → Looked s.seen s.may s.trail x y → Quiet (mem_of s x) (mem_of s y)
+looked_quiet s l = record { seen = l.same; may = l.lists; trail = l.trails }
 
 pub still : (m : Mem) → Quiet m m
 still m = record { seen = refl; may = record { none = λ s c i. i }; trail = record { none = λ s c i. i } }
+
+-- a draft that is out at a stage
+pub out_at : {r out : Option Draft} {s : Stage} {d : Draft} → OutAt r s out → r ≡ Some d → (out ≡ Some d) × (d.stage ≡ s)
+out_at {out = out} {s = s} f e = subst (λ r. OutAt r s out) e f
 
 -- a draft that is out belongs to a page that is shown
 pub steady_draft : (bs : List ℕ) (page : Option Layout) (o : Option Draft) (d : Draft) → o ≡ Some d → Steady bs page o

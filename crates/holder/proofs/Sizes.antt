@@ -1,19 +1,22 @@
 -- The size of a draft.
-use Rattle.std.proofs.Common.{◌≡◌, ℕ, ◌+◌, ◌<◌, ◌≤◌, min, Bool, true, false, cond, not, ◌&&◌, ltb, leb, Ok, Err, Result, refl, ap, ◌∙◌, true≢false, arith}
-use Rattle.std.proofs.lemmas.Bool.{and_parts, ltb-true, leb-true, le-leb, lt-ltb, le-ltb}
+use Rattle.std.proofs.Common.{◌≡◌, ℕ, ◌<◌, ◌≤◌, Bool, true, false, not, ltb, [], Some, None, Ok, Err, Option, Result, ok_or, sym, refl, ap, ◌∙◌, subst, true≢false, arith}
+use Rattle.std.proofs.lemmas.Bool.{lt-ltb, le-ltb}
 use Rattle.faults.specs.declared.fault.Fault.{Fault}
 use Rattle.faults.specs.declared.fault.Check.TheVariants.{Many, View as ViewCheck}
 use Rattle.faults.specs.Faults.{bare, refused}
 use Rattle.links.proofs.Chaining.{passed}
-use Rattle.raster.specs.Views.{swaps}
 use Rattle.pages.specs.declared.layout.Layout.{Layout}
-use Rattle.pages.specs.Pages.{between}
-use Rattle.stored.specs.Sane.{sane, Sane, sane_parts}
+use Rattle.stored.specs.Sane.{sane}
+use Rattle.stored.specs.Soundness.{picture_sound}
+use Rattle.stored.specs.Pixels.{picture_of}
+use Rattle.plans.specs.declared.draft.DraftOutline.{DraftOutline}
+use Rattle.plans.specs.declared.outline.Outline.{Outline}
 use Rattle.plans.specs.declared.plan.Plan.{Plan}
 use Rattle.plans.specs.declared.view.View.{View}
-use Rattle.plans.specs.Limits.{limited}
-use Rattle.plans.specs.Views.{fits_in, shows_in, view_checked, view_width, view_height}
-use Rattle.plans.specs.Outlines.{Proper, Spans, segments_in, block_size, cut_by}
+use Rattle.plans.specs.Plans.{Drafts}
+use Rattle.plans.specs.Views.{shows_in, view_checked}
+use Rattle.plans.specs.Outlines.{Proper, segments_in, block_size}
+use Rattle.writer.proofs.Drafted.{made_proper}
 use Rattle.drafts.specs.Steps.{sized_for, outline_by, width_of, height_of}
 
 -- an accepted view
@@ -50,55 +53,21 @@ sized_ok l v plan t n =
     ap (λ b. refused (not b) (bare ViewCheck) (refused (ltb 1024 (segments_in (outline_by v plan l.kind))) (bare Many) (Ok (block_size (outline_by v plan l.kind))))) t
     ∙ ap (λ b. refused b (bare Many) (Ok (block_size (outline_by v plan l.kind)))) (le-ltb 1024 (segments_in (outline_by v plan l.kind)) n)
 
--- the sides of what is seen through a view that fits
-pub record Sides (l : Layout) (v : View) : Type 0 where
-  pub some_wide : 1 ≤ view_width v
-  pub some_high : 1 ≤ view_height v
-  pub wide : view_width v ≤ 16384
-  pub high : view_height v ≤ 16384
-
-either : (b : Bool) (x y : ℕ) (P : ℕ → Type 0) → P x → P y → P (cond b x y)
-either true x y P p q = p
-either false x y P p q = q
-
-pub view_sides : (l : Layout) (v : View) → Sane l → shows_in (width_of l) (height_of l) v ≡ true → Sides l v
-view_sides l v s t =
-    let whole = (and_parts (fits_in (width_of l) (height_of l) v.area) (between 1 8 v.turn) t).0 in
-    let parts = and_parts (ltb 0 v.area.width && ltb 0 v.area.height) (leb (v.area.x + v.area.width) (width_of l) && leb (v.area.y + v.area.height) (height_of l)) whole in
-    let some = and_parts (ltb 0 v.area.width) (ltb 0 v.area.height) parts.0 in
-    let most = and_parts (leb (v.area.x + v.area.width) (width_of l)) (leb (v.area.y + v.area.height) (height_of l)) parts.1 in
-    let w : 0 < v.area.width = ltb-true 0 v.area.width some.0 in
-    let h : 0 < v.area.height = ltb-true 0 v.area.height some.1 in
-    let wl : width_of l ≤ 16384 = either (swaps l.orientation) l.height l.width (λ n. n ≤ 16384) s.height.most s.width.most in
-    let hl : height_of l ≤ 16384 = either (swaps l.orientation) l.width l.height (λ n. n ≤ 16384) s.width.most s.height.most in
-    let wm : v.area.width ≤ 16384 = omega (arith, leb-true (v.area.x + v.area.width) (width_of l) most.0) in
-    let hm : v.area.height ≤ 16384 = omega (arith, leb-true (v.area.y + v.area.height) (height_of l) most.1) in
-    record {
-      some_wide = either (swaps v.turn) v.area.height v.area.width (λ n. 1 ≤ n) (omega arith) (omega arith);
-      some_high = either (swaps v.turn) v.area.width v.area.height (λ n. 1 ≤ n) (omega arith) (omega arith);
-      wide = either (swaps v.turn) v.area.height v.area.width (λ n. n ≤ 16384) hm wm;
-      high = either (swaps v.turn) v.area.width v.area.height (λ n. n ≤ 16384) wm hm;
-    }
+-- the size of a draft by its outline
+abbrev pub sized_by : Result DraftOutline Fault → Result ℕ Fault
+sized_by (Ok d) = Ok (block_size d.outline)
+sized_by (Err f) = Err f
 
 -- the outline of a draft through a view that fits is proper
 pub view_proper : (l : Layout) (v : View) (plan : Plan) → sane l ≡ true → shows_in (width_of l) (height_of l) v ≡ true → Proper (outline_by v plan l.kind)
-view_proper l v plan t u =
-    let s = sane_parts l t in
-    let k = view_sides l v s u in
-    record {
-      kind = s.kind;
-      some_wide = k.some_wide;
-      some_high = k.some_high;
-      wide = k.wide;
-      high = k.high;
-      limits = lim plan.tiled plan.wide plan.high (view_width v) (view_height v) k.some_high plan.limits;
-      spanned = span plan.tiled plan.wide plan.high (view_width v) (view_height v);
-    }
-  where
-    lim : (tiled : Bool) (wide high w h : ℕ) → 1 ≤ h → limited tiled wide high ≡ true → limited (cut_by tiled wide high w h).tiled (cut_by tiled wide high w h).wide (cut_by tiled wide high w h).high ≡ true
-    lim false wide high w h n e = le-leb 1 (min high h) (omega (arith, leb-true 1 high e))
-    lim true wide high w h n e = e
+view_proper l v plan t u = made_proper plan (picture_of [] l) v (picture_sound [] l t) u
 
-    span : (tiled : Bool) (wide high w h : ℕ) → Spans (cut_by tiled wide high w h) w h
-    span false wide high w h = λ _. (refl, omega arith)
-    span true wide high w h = λ e. absurd (true≢false e)
+-- what an accepted view and the outline of its draft come to
+pub sized_draft : (l : Layout) (v : View) (plan : Plan) (o : Option DraftOutline) (r : Result DraftOutline Fault) → sane l ≡ true
+    → view_checked (width_of l) (height_of l) v ≡ Ok tt → Drafts o (outline_by v plan l.kind) → r ≡ ok_or o (bare Many) → sized_by r ≡ sized_for l v plan
+sized_draft l v plan (Some d) r t e is told =
+    ap sized_by told ∙ ap (λ (q : Outline). Ok (block_size q)) is
+    ∙ sym (sized_ok l v plan (check_shows (width_of l) (height_of l) v e) (subst (λ (q : Outline). segments_in q ≤ 1024) is d.few))
+sized_draft l v plan None r t e many told =
+    let shows = check_shows (width_of l) (height_of l) v e in
+    ap sized_by told ∙ sym (sized_many l v plan shows (many (view_proper l v plan t shows)))

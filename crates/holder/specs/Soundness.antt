@@ -1,7 +1,7 @@
 -- A holder is a grid: its picture is sound, and a question keeps what it has in mind. Assumes nothing.
 use Rattle.std.specs.Prelude.{ℕ, List, Some, None, Option, refl}
 use Rattle.std.proofs.Common.{◌∙◌}
-use Rattle.octets.specs.Sectors.{Lists}
+use Rattle.store.specs.declared.traits.Store.{Ghosts}
 use Rattle.raster.specs.Picture.{Sound}
 use Rattle.raster.specs.Soundness.{empty_sound}
 use Rattle.raster.specs.Kept.{Kept}
@@ -15,21 +15,19 @@ shown_sound : (page : Option Page) (bs : List ℕ) → Sound (shown_of (layout_i
 shown_sound None bs = empty_sound
 shown_sound (Some p) bs = picture_sound bs p.layout p.limits
 
-module _ {S : Type 0} (seen : S → List ℕ) where
-  pub holder_sound : (h : Holder S) → Sound (picture_by seen h)
-  holder_sound h = shown_sound h.state.page (seen h.store)
+pub holder_sound : {S : Type 0} (seen : S → List ℕ) (h : Holder S) → Sound (picture_by seen h)
+holder_sound seen h = shown_sound h.state.page (seen h.store)
 
-  module _ (may trail : S → Lists) where
-    abbrev pub holder_keeps : Kept (Holder S)
-    holder_keeps = record {
-      across = KeptBy seen may trail;
-      none = λ h. record { state = refl; quiet = record { seen = refl; may = record { none = λ s c i. i }; trail = record { none = λ s c i. i } } };
-      both = λ p q. record {
-        state = q.state ∙ p.state;
-        quiet = record {
-          seen = q.quiet.seen ∙ p.quiet.seen;
-          may = record { none = λ s c i. p.quiet.may.none s c (q.quiet.may.none s c i) };
-          trail = record { none = λ s c i. p.quiet.trail.none s c (q.quiet.trail.none s c i) };
-        };
-      };
-    }
+abbrev pub holder_keeps : {S : Type 0} → Ghosts S → Kept (Holder S)
+holder_keeps g = record {
+  across = KeptBy g;
+  none = λ h. record { state = refl; quiet = record { seen = refl; may = record { none = λ s c i. i }; trail = record { none = λ s c i. i } } };
+  both = λ p q. record {
+    state = q.state ∙ p.state;
+    quiet = record {
+      seen = q.quiet.seen ∙ p.quiet.seen;
+      may = record { none = λ s c i. p.quiet.may.none s c (q.quiet.may.none s c i) };
+      trail = record { none = λ s c i. p.quiet.trail.none s c (q.quiet.trail.none s c i) };
+    };
+  };
+}

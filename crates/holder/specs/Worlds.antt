@@ -3,7 +3,7 @@ use Rattle.std.specs.Prelude.{◌≡◌, ℕ, List, Some, None, Ok, Err, Option,
 use Rattle.faults.specs.declared.fault.Fault.{Fault}
 use Rattle.faults.specs.declared.fault.Check.TheVariants.{Closed}
 use Rattle.faults.specs.Faults.{bare}
-use Rattle.octets.specs.Sectors.{Lists}
+use Rattle.store.specs.declared.traits.Store.{Ghosts}
 use Rattle.raster.specs.Picture.{Picture}
 use Rattle.pages.specs.declared.layout.Layout.{Layout}
 use Rattle.stored.specs.declared.page.Page.{Page}
@@ -27,14 +27,14 @@ module _ {S : Type 0} (seen : S → List ℕ) where
   abbrev pub picture_by : Holder S → Picture
   picture_by h = picture_in (held_by h.state) (seen h.store)
 
-  module _ (may trail : S → Lists) where
-    abbrev pub world_of : Holder S → World
-    world_of h = world (held_by h.state) (mem_of seen may trail h.store)
+module _ {S : Type 0} (s : Ghosts S) where
+  abbrev pub world_of : Holder S → World
+  world_of h = world (held_by h.state) (mem_of s h.store)
 
-    -- what a question to a holder keeps: what it has in mind, and all that its store means but for lists that have lost something
-    pub record KeptBy (g h : Holder S) : Type 0 where
-      pub state : h.state ≡ g.state
-      pub quiet : Quiet (mem_of seen may trail g.store) (mem_of seen may trail h.store)
+  -- what a question to a holder keeps: what it has in mind, and all that its store means but for lists that have lost something
+  pub record KeptBy (g h : Holder S) : Type 0 where
+    pub state : h.state ≡ g.state
+    pub quiet : Quiet (mem_of s g.store) (mem_of s h.store)
 
 -- an answer of `open`, with the picture shown after it
 abbrev pub told_open : Picture → Result (Unit {0}) Fault → Answer

@@ -6,7 +6,7 @@ ghost use Rattle.drafts.specs.Mem.{mem_of};
 ghost use Rattle.plans.specs.Blocks.{header};
 ghost use Rattle.writer.specs.Drafts.{draft_sector};
 ghost use Rattle.holder.specs.Worlds.{world_of, held_by, picture_by, asked_size};
-ghost use Rattle.holder.specs.Told.{told_unit, told_begin, told_carry, told_rest, told_switch, LiveBegin, LiveCarry, LiveRest, LiveSwitch, WroteBy};
+ghost use Rattle.holder.specs.Told.{told_unit, told_begin, told_carry, told_rest, told_switch, OutAt, LiveBegin, LiveCarry, LiveOn, WroteBy};
 
 use crate::holder::Holder;
 use crate::token::{Begun, Rested, Switched, Token};
@@ -23,19 +23,15 @@ use store::traits::Card;
 use stored::page::Page;
 use writer::sectors::fill_sector;
 
-// A page may be cut into at most this many segments.
-const MOST_SEGMENTS: u64 = 1024;
-
 // The bytes of the draft of a page through a view by a plan; refused as View or Many.
 fn size_for(page: Page, view: View, plan: Plan) -> Result<u64, Fault>
     ensures { result ≡ sized_for page.layout view plan }
 {
     view.check(page.size())?;
-    let outline = plan.outline(view.size(), page.kind());
-    if outline.segments() > MOST_SEGMENTS {
-        return Err(Check::Many.fault());
-    }
-    Ok(outline.size())
+    let draft = plan
+        .draft(view.size(), page.kind())
+        .ok_or(Check::Many.fault())?;
+    Ok(draft.size())
 }
 
 // Writes the front of a buffer to a card, in one write.
@@ -46,7 +42,7 @@ fn write_front<C: Card>(
     count: usize,
 ) -> Result<(), Fault>
     requires { count ≤ 512 }
-    ensures { WroteBy result (mem_of C.Store.seen C.Store.may C.Store.trail card.old) place (take count buffer.now) (mem_of C.Store.seen C.Store.may C.Store.trail card.new) }
+    ensures { WroteBy result (mem_of C.Store card.old) place (take count buffer.now) (mem_of C.Store card.new) }
 {
     card.write(place, &buffer[0..count])
 }
@@ -55,8 +51,7 @@ fn write_front<C: Card>(
 fn sectors_of(size: u64) -> u64
     ensures { result ≡ sectors size }
 {
-    let whole = size / 512;
-    if size % 512 == 0 { whole } else { whole + 1 }
+    size.div_ceil(512)
 }
 
 // The sectors left of so many once one more is carried than the `done` before.
@@ -71,15 +66,13 @@ impl<C: Card> Holder<C> {
     pub fn draft_size(&self, view: View, plan: Plan) -> Result<u64, Fault>
         ensures { result ≡ asked_size (held_by self.now.state).page view plan }
     {
-        match self.state.page {
-            Some(page) => size_for(page, view, plan),
-            None => Err(Check::Closed.fault()),
-        }
+        let page = self.state.page.ok_or(Check::Closed.fault())?;
+        size_for(page, view, plan)
     }
 
     // Begins a draft of the picture through a view by a plan; answers the sectors to carry.
     pub fn begin(&mut self, view: View, plan: Plan) -> Result<(Begun, u64), Fault>
-        ensures step { Step (Begin view plan) (world_of C.Store.seen C.Store.may C.Store.trail self.old) (told_begin result) (world_of C.Store.seen C.Store.may C.Store.trail self.new) }
+        ensures step { Step (Begin view plan) (world_of C.Store self.old) (told_begin result) (world_of C.Store self.new) }
         ensures live { LiveBegin result }
     {
         if self.state.draft.is_some() {
@@ -106,7 +99,7 @@ impl<C: Card> Holder<C> {
 
     // Writes a sector of a draft, in one write.
     fn put_sector(&mut self, draft: Draft, sector: u32) -> Result<(), Fault>
-        ensures wrote { WroteBy result (mem_of C.Store.seen C.Store.may C.Store.trail self.old.store) (draft.place + 512 * sector) (draft_sector draft.plan (picture_by C.Store.seen self.old) draft.view draft.place sector) (mem_of C.Store.seen C.Store.may C.Store.trail self.new.store) }
+        ensures wrote { WroteBy result (mem_of C.Store self.old.store) (draft.place + 512 * sector) (draft_sector draft.plan (picture_by C.Store.seen self.old) draft.view draft.place sector) (mem_of C.Store self.new.store) }
         ensures state { self.new.state ≡ self.old.state }
     {
         let mut buffer = [0u8; 512];
@@ -119,15 +112,15 @@ impl<C: Card> Holder<C> {
             &mut buffer,
         );
         let at = draft.place as u64 + 512 * sector as u64;
-        if at > u32::MAX as u64 {
+        let Ok(at) = u32::try_from(at) else {
             return Err(Check::Past.fault());
-        }
-        write_front(&mut self.store, at as u32, &buffer, count)
+        };
+        write_front(&mut self.store, at, &buffer, count)
     }
 
     // Writes the next sector of the draft, or its last part, in one write; answers the sectors left.
     pub fn carry(&mut self, token: Begun) -> Result<(Begun, u64), (Begun, Fault)>
-        ensures step { Sound (world_of C.Store.seen C.Store.may C.Store.trail self.old) → Step Carry (world_of C.Store.seen C.Store.may C.Store.trail self.old) (told_carry result) (world_of C.Store.seen C.Store.may C.Store.trail self.new) }
+        ensures step { Sound (world_of C.Store self.old) → Step Carry (world_of C.Store self.old) (told_carry result) (world_of C.Store self.new) }
         ensures live { LiveCarry token result }
     {
         let Some(draft) = self.state.draft else {
@@ -136,6 +129,7 @@ impl<C: Card> Holder<C> {
         let Stage::Begun(done) = draft.stage else {
             return Err((token, Check::Stage.fault()));
         };
+        // The token goes back with the fault, and into no closure.
         let size = match self.draft_size(draft.view, draft.plan) {
             Ok(size) => size,
             Err(fault) => return Err((token, fault)),
@@ -146,25 +140,29 @@ impl<C: Card> Holder<C> {
         Ok((token, left_after(sectors, done)))
     }
 
+    // The draft that is out, if it is at this stage.
+    fn draft_at(&self, stage: Stage) -> Option<Draft>
+        ensures { OutAt result stage self.now.state.draft }
+    {
+        self.state.draft.filter(|draft| draft.stage == stage)
+    }
+
     // Settles the card under a draft that is carried.
     pub fn rest(&mut self, token: Begun) -> Result<Rested, (Begun, Fault)>
-        ensures step { Step Rest (world_of C.Store.seen C.Store.may C.Store.trail self.old) (told_rest result) (world_of C.Store.seen C.Store.may C.Store.trail self.new) }
-        ensures live { LiveRest token result }
+        ensures step { Step Rest (world_of C.Store self.old) (told_rest result) (world_of C.Store self.new) }
+        ensures live { LiveOn token result }
     {
-        let Some(draft) = self.state.draft else {
-            return Err((token, Check::Stage.fault()));
-        };
-        let Stage::Carried = draft.stage else {
+        let Some(draft) = self.draft_at(Stage::Carried) else {
             return Err((token, Check::Stage.fault()));
         };
         self.store.settle();
         self.state.draft = Some(draft.at(Stage::Rested));
-        Ok(token.rested())
+        Ok(token.moved())
     }
 
     // Writes the header that leads to the draft.
     fn point(&mut self, draft: Draft) -> Result<(), Fault>
-        ensures wrote { WroteBy result (mem_of C.Store.seen C.Store.may C.Store.trail self.old.store) 0 (header draft.plan.endian draft.place) (mem_of C.Store.seen C.Store.may C.Store.trail self.new.store) }
+        ensures wrote { WroteBy result (mem_of C.Store self.old.store) 0 (header draft.plan.endian draft.place) (mem_of C.Store self.new.store) }
         ensures state { self.new.state ≡ self.old.state }
     {
         let outline = draft.plan.outline(draft.view.size(), self.kind());
@@ -174,31 +172,23 @@ impl<C: Card> Holder<C> {
 
     // Has the header lead to the draft, in one write.
     pub fn switch(&mut self, token: Rested) -> Result<Switched, (Rested, Fault)>
-        ensures step { Sound (world_of C.Store.seen C.Store.may C.Store.trail self.old) → Step Switch (world_of C.Store.seen C.Store.may C.Store.trail self.old) (told_switch result) (world_of C.Store.seen C.Store.may C.Store.trail self.new) }
-        ensures live { LiveSwitch token result }
+        ensures step { Sound (world_of C.Store self.old) → Step Switch (world_of C.Store self.old) (told_switch result) (world_of C.Store self.new) }
+        ensures live { LiveOn token result }
     {
-        let Some(draft) = self.state.draft else {
-            return Err((token, Check::Stage.fault()));
-        };
-        let Stage::Rested = draft.stage else {
+        let Some(draft) = self.draft_at(Stage::Rested) else {
             return Err((token, Check::Stage.fault()));
         };
         let _ = self.point(draft);
         self.state.draft = Some(draft.at(Stage::Switched));
-        Ok(token.switched())
+        Ok(token.moved())
     }
 
     // Settles the card, and shows the page that the header now leads to.
     pub fn keep(&mut self, token: Switched) -> Result<(), Fault>
-        ensures { Step Keep (world_of C.Store.seen C.Store.may C.Store.trail self.old) (told_unit result) (world_of C.Store.seen C.Store.may C.Store.trail self.new) }
+        ensures { Step Keep (world_of C.Store self.old) (told_unit result) (world_of C.Store self.new) }
     {
         token.spend();
-        let Some(draft) = self.state.draft else {
-            return Err(Check::Stage.fault());
-        };
-        let Stage::Switched = draft.stage else {
-            return Err(Check::Stage.fault());
-        };
+        let draft = self.draft_at(Stage::Switched).ok_or(Check::Stage.fault())?;
         self.store.settle();
         let found = Page::open(&mut self.store, 0);
         self.state.page = found.ok();
@@ -209,13 +199,14 @@ impl<C: Card> Holder<C> {
 
     // Gives up the draft.
     pub fn scrap(&mut self, token: Token) -> Result<(), Fault>
-        ensures { Step Scrap (world_of C.Store.seen C.Store.may C.Store.trail self.old) (told_unit result) (world_of C.Store.seen C.Store.may C.Store.trail self.new) }
+        ensures { Step Scrap (world_of C.Store self.old) (told_unit result) (world_of C.Store self.new) }
     {
         token.spend();
-        let Some(draft) = self.state.draft else {
-            return Err(Check::Stage.fault());
-        };
-        if let Stage::Switched = draft.stage {
+        if self
+            .state
+            .draft
+            .is_none_or(|draft| draft.stage == Stage::Switched)
+        {
             return Err(Check::Stage.fault());
         }
         self.state.draft = None;

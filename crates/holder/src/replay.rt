@@ -7,11 +7,11 @@ ghost use Rattle.netpbm.specs.Window.{window_buffer};
 ghost use Rattle.law.specs.Book.{buffer_by};
 ghost use Rattle.law.specs.Run.{roomed, Stepped, LawfulRun};
 ghost use Rattle.holder.specs.Worlds.{world_of, picture_by, told_open};
-ghost use Rattle.holder.specs.Told.{told_unit, told_begin, told_carry, told_rest, told_switch};
+ghost use Rattle.holder.specs.Told.{spent, told_unit, told_begin, told_draft};
 ghost use Rattle.holder.specs.Lines.{line_of, lines_of};
 
 use crate::holder::Holder;
-use crate::token::{Begun, Rested, Switched, Token};
+use crate::token::{Begun, Rested, Switched, Ticket};
 use drafts::call::{Call, Reply};
 use faults::fault::Fault;
 use raster::grid::{Area, Grid};
@@ -25,108 +25,68 @@ pub struct Line {
     pub answer: Result<Reply, Fault>,
 }
 
+// The result, with the draft spent that a refusal hands back.
+fn spent<T, S>(res: Result<T, (Ticket<S>, Fault)>) -> Result<T, Fault>
+    ensures { result ≡ spent res }
+{
+    res.map_err(|(draft, fault)| {
+        draft.spend();
+        fault
+    })
+}
+
 // The answer in a result, its draft spent.
 fn done(res: Result<(), Fault>) -> Result<Reply, Fault>
     ensures { result ≡ told_unit res }
 {
-    match res {
-        Ok(()) => Ok(Reply::Done),
-        Err(fault) => Err(fault),
-    }
+    res.map(|()| Reply::Done)
+}
+
+fn drafted<S>(res: Result<Ticket<S>, Fault>) -> Result<Reply, Fault>
+    ensures { result ≡ told_draft res }
+{
+    let draft = res?;
+    draft.spend();
+    Ok(Reply::Done)
 }
 
 fn begun(res: Result<(Begun, u64), Fault>) -> Result<Reply, Fault>
     ensures { result ≡ told_begin res }
 {
-    match res {
-        Ok((draft, left)) => {
-            draft.spend();
-            Ok(Reply::Number(left))
-        }
-        Err(fault) => Err(fault),
-    }
-}
-
-fn carried(res: Result<(Begun, u64), (Begun, Fault)>) -> Result<Reply, Fault>
-    ensures { result ≡ told_carry res }
-{
-    match res {
-        Ok((draft, left)) => {
-            draft.spend();
-            Ok(Reply::Number(left))
-        }
-        Err((draft, fault)) => {
-            draft.spend();
-            Err(fault)
-        }
-    }
-}
-
-fn rested(res: Result<Rested, (Begun, Fault)>) -> Result<Reply, Fault>
-    ensures { result ≡ told_rest res }
-{
-    match res {
-        Ok(draft) => {
-            draft.spend();
-            Ok(Reply::Done)
-        }
-        Err((draft, fault)) => {
-            draft.spend();
-            Err(fault)
-        }
-    }
-}
-
-fn switched(res: Result<Switched, (Rested, Fault)>) -> Result<Reply, Fault>
-    ensures { result ≡ told_switch res }
-{
-    match res {
-        Ok(draft) => {
-            draft.spend();
-            Ok(Reply::Done)
-        }
-        Err((draft, fault)) => {
-            draft.spend();
-            Err(fault)
-        }
-    }
+    let (draft, left) = res?;
+    draft.spend();
+    Ok(Reply::Number(left))
 }
 
 impl<C: Card> Holder<C> {
     // Opens a page, and answers its size and kind.
     fn show(&mut self, page: u32) -> Result<Reply, Fault>
-        ensures { Step (Open page) (world_of C.Store.seen C.Store.may C.Store.trail self.old) result (world_of C.Store.seen C.Store.may C.Store.trail self.new) }
+        ensures { Step (Open page) (world_of C.Store self.old) result (world_of C.Store self.new) }
     {
-        match self.open(page) {
-            Ok(()) => Ok(Reply::Shown(self.size(), self.kind())),
-            Err(fault) => Err(fault),
-        }
+        self.open(page)?;
+        Ok(Reply::Shown(self.size(), self.kind()))
     }
 
     // Asks for a pixel.
     fn ask(&mut self, x: u32, y: u32) -> Result<Reply, Fault>
-        ensures { Step (Pixel x y) (world_of C.Store.seen C.Store.may C.Store.trail self.old) result (world_of C.Store.seen C.Store.may C.Store.trail self.new) }
+        ensures { Step (Pixel x y) (world_of C.Store self.old) result (world_of C.Store self.new) }
     {
-        match self.pixel(x, y) {
-            Ok(number) => Ok(Reply::Number(number as u64)),
-            Err(fault) => Err(fault),
-        }
+        let number = self.pixel(x, y)?;
+        Ok(Reply::Number(number as u64))
     }
 
     // Prints a window.
     fn print(&mut self, area: Area, buffer: &mut [u8]) -> Result<Reply, Fault>
-        ensures step { Step (Window area (length buffer.old)) (world_of C.Store.seen C.Store.may C.Store.trail self.old) result (world_of C.Store.seen C.Store.may C.Store.trail self.new) }
+        ensures step { Step (Window area (length buffer.old)) (world_of C.Store self.old) result (world_of C.Store self.new) }
         ensures buffer { buffer.new ≡ window_buffer (picture_by C.Store.seen self.old) area buffer.old }
     {
-        match self.window(area, buffer) {
-            Ok(count) => Ok(Reply::Number(count as u64)),
-            Err(fault) => Err(fault),
-        }
+        let count = self.window(area, buffer)?;
+        Ok(Reply::Number(count as u64))
     }
 
     // Makes one call of a run, with a draft of its own where the call takes one.
     fn make(&mut self, call: Call, buffer: &mut [u8]) -> Result<Reply, Fault>
-        ensures step { Sound (world_of C.Store.seen C.Store.may C.Store.trail self.old) → Step (roomed call (length buffer.old)) (world_of C.Store.seen C.Store.may C.Store.trail self.old) result (world_of C.Store.seen C.Store.may C.Store.trail self.new) }
+        ensures step { Sound (world_of C.Store self.old) → Step (roomed call (length buffer.old)) (world_of C.Store self.old) result (world_of C.Store self.new) }
         ensures buffer { buffer.new ≡ buffer_by (picture_by C.Store.seen self.old) call buffer.old }
     {
         match call {
@@ -135,17 +95,17 @@ impl<C: Card> Holder<C> {
             Call::Window(area, _) => self.print(area, buffer),
             Call::Arrow => Ok(Reply::Number(self.arrow() as u64)),
             Call::Begin(view, plan) => begun(self.begin(view, plan)),
-            Call::Carry => carried(self.carry(Begun::new())),
-            Call::Rest => rested(self.rest(Begun::new())),
-            Call::Switch => switched(self.switch(Rested::new())),
+            Call::Carry => begun(spent(self.carry(Begun::new()))),
+            Call::Rest => drafted(spent(self.rest(Begun::new()))),
+            Call::Switch => drafted(spent(self.switch(Rested::new()))),
             Call::Keep => done(self.keep(Switched::new())),
-            Call::Scrap => done(self.scrap(Token::Begun(Begun::new()))),
+            Call::Scrap => done(self.scrap(Begun::new().into())),
         }
     }
 
     // Makes the call of a line.
     fn answer(&mut self, line: &mut Line)
-        ensures stepped { Stepped (world_of C.Store.seen C.Store.may C.Store.trail self.old) (line_of line.old line.new) (world_of C.Store.seen C.Store.may C.Store.trail self.new) }
+        ensures stepped { Stepped (world_of C.Store self.old) (line_of line.old line.new) (world_of C.Store self.new) }
         ensures call { line.new.call ≡ line.old.call }
     {
         line.answer = self.make(line.call, &mut line.buffer);
@@ -154,7 +114,7 @@ impl<C: Card> Holder<C> {
 
 // A holder over the card, sent the calls of the lines in order; each line gets its answer.
 pub fn replay<C: Card>(card: C, lines: &mut [Line]) -> Holder<C>
-    ensures run { LawfulRun (mem_of C.Store.seen C.Store.may C.Store.trail card) (lines_of lines.old lines.new) (mem_of C.Store.seen C.Store.may C.Store.trail result.store) }
+    ensures run { LawfulRun (mem_of C.Store card) (lines_of lines.old lines.new) (mem_of C.Store result.store) }
     ensures calls { map (λ l. l.call) lines.new ≡ map (λ l. l.call) lines.old }
 {
     let mut holder = Holder::new(card);

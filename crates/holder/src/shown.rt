@@ -19,33 +19,21 @@ impl<S: Store> Grid for Holder<S> {
 
     ghost sound = { holder_sound S.Store.seen };
 
-    ghost keeps = { holder_keeps S.Store.seen S.Store.may S.Store.trail };
+    ghost keeps = { holder_keeps S.Store };
 
     fn size(&self) -> Size {
-        match self.state.page {
-            Some(page) => page.size(),
-            None => Size {
-                width: 0,
-                height: 0,
-            },
-        }
+        self.state.page.map_or(Size::EMPTY, |page| page.size())
     }
 
     fn kind(&self) -> Kind {
-        match self.state.page {
-            Some(page) => page.kind(),
-            None => Kind {
-                photometric: Photometric::BlackIsZero,
-                bits: 1,
-            },
-        }
+        self.state.page.map_or(Kind::EMPTY, |page| page.kind())
     }
 
     fn pixel(&mut self, x: u32, y: u32) -> Result<u32, Fault> {
-        match self.state.page {
-            Some(page) => page.pixel(&mut self.store, x, y),
-            None => Err(Check::Outside.fault()),
-        }
+        let Some(page) = self.state.page else {
+            return Err(Check::Outside.fault());
+        };
+        page.pixel(&mut self.store, x, y)
     }
 }
 
@@ -67,7 +55,7 @@ impl<S: Store> Holder<S> {
 
     // Shows a page, from 0; refused, what is shown stays. Every call but a Busy one settles the store.
     pub fn open(&mut self, page: u32) -> Result<(), Fault>
-        ensures { Step (Open page) (world_of S.Store.seen S.Store.may S.Store.trail self.old) (told_open (picture_by S.Store.seen self.new) result) (world_of S.Store.seen S.Store.may S.Store.trail self.new) }
+        ensures { Step (Open page) (world_of S.Store self.old) (told_open (picture_by S.Store.seen self.new) result) (world_of S.Store self.new) }
     {
         if self.state.draft.is_some() {
             return Err(Check::Busy.fault());
@@ -81,7 +69,7 @@ impl<S: Store> Holder<S> {
 
     // A rectangle of the picture as a Netpbm file; a refusal leaves the buffer as it was.
     pub fn window(&mut self, area: Area, buffer: &mut [u8]) -> Result<usize, Fault>
-        ensures step { Step (Window area (length buffer.old)) (world_of S.Store.seen S.Store.may S.Store.trail self.old) (number result) (world_of S.Store.seen S.Store.may S.Store.trail self.new) }
+        ensures step { Step (Window area (length buffer.old)) (world_of S.Store self.old) (number result) (world_of S.Store self.new) }
         ensures buffer { buffer.new ≡ window_buffer (picture_by S.Store.seen self.old) area buffer.old }
     {
         window(self, area, buffer)
@@ -89,7 +77,7 @@ impl<S: Store> Holder<S> {
 
     // The one turn that the orientation and all turns kept since opening amount to, 1 if closed.
     pub fn arrow(&self) -> u8
-        ensures { Step Arrow (world_of S.Store.seen S.Store.may S.Store.trail self.now) (number (Ok result)) (world_of S.Store.seen S.Store.may S.Store.trail self.now) }
+        ensures { Step Arrow (world_of S.Store self.now) (number (Ok result)) (world_of S.Store self.now) }
     {
         self.state.arrow
     }

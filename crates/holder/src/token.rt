@@ -1,42 +1,64 @@
 // The drafts that are handed about. One is live until `keep` or `scrap` takes it, and only a spent one may be let go.
-ghost use Rattle.std.specs.Prelude.{◌≡◌};
+ghost use Rattle.std.specs.Prelude.{◌≡◌, true, false};
+
+use std::marker::PhantomData;
+
+// The stages at which a draft is handed about.
+pub struct AtBegun;
+
+pub struct AtRested;
+
+pub struct AtSwitched;
+
+// A draft at a stage.
+pub struct Ticket<S> {
+    live: bool,
+    stage: PhantomData<S>,
+}
 
 // A draft that is begun or carried.
-pub struct Begun {
-    live: u8,
-}
-
-impl Drop for Begun {
-    fn drop(self)
-        requires { self.live ≡ 0 }
-    {
-        let Begun { live: _ } = self;
-    }
-}
+pub type Begun = Ticket<AtBegun>;
 
 // A draft whose card was settled since it was carried.
-pub struct Rested {
-    live: u8,
-}
+pub type Rested = Ticket<AtRested>;
 
-impl Drop for Rested {
+// A draft that the header leads to.
+pub type Switched = Ticket<AtSwitched>;
+
+impl<S> Drop for Ticket<S> {
     fn drop(self)
-        requires { self.live ≡ 0 }
+        requires { self.live ≡ false }
     {
-        let Rested { live: _ } = self;
+        let Ticket { live: _, stage: _ } = self;
     }
 }
 
-// A draft that the header leads to.
-pub struct Switched {
-    live: u8,
-}
-
-impl Drop for Switched {
-    fn drop(self)
-        requires { self.live ≡ 0 }
+impl<S> Ticket<S> {
+    // A live draft.
+    pub(crate) fn new() -> Self
+        ensures { result.live ≡ true }
     {
-        let Switched { live: _ } = self;
+        Ticket {
+            live: true,
+            stage: PhantomData,
+        }
+    }
+
+    // Spends the draft.
+    pub(crate) fn spend(self) {
+        let mut draft = self;
+        draft.live = false;
+    }
+
+    // The draft at another stage.
+    pub(crate) fn moved<T>(self) -> Ticket<T>
+        ensures { result.live ≡ self.live }
+    {
+        let Ticket { live, stage: _ } = self;
+        Ticket {
+            live,
+            stage: PhantomData,
+        }
     }
 }
 
@@ -58,63 +80,32 @@ impl Token {
     }
 }
 
-impl Begun {
-    // A live draft.
-    pub(crate) fn new() -> Self
-        ensures { result.live ≡ 1 }
-    {
-        Begun { live: 1 }
-    }
+impl From<Begun> for Token {
+    ghost use Rattle.holder.specs.declared.token.Token.TheVariants.{Begun};
 
-    // Spends the draft.
-    pub(crate) fn spend(self) {
-        let mut draft = self;
-        draft.live = 0;
-    }
+    ghost from_gives = { λ draft token. token ≡ Begun draft };
 
-    // The draft once it has rested.
-    pub(crate) fn rested(self) -> Rested
-        ensures { result.live ≡ self.live }
-    {
-        let Begun { live } = self;
-        Rested { live }
+    fn from(draft: Ticket<AtBegun>) -> Token {
+        Token::Begun(draft)
     }
 }
 
-impl Rested {
-    // A live draft.
-    pub(crate) fn new() -> Self
-        ensures { result.live ≡ 1 }
-    {
-        Rested { live: 1 }
-    }
+impl From<Rested> for Token {
+    ghost use Rattle.holder.specs.declared.token.Token.TheVariants.{Rested};
 
-    // Spends the draft.
-    pub(crate) fn spend(self) {
-        let mut draft = self;
-        draft.live = 0;
-    }
+    ghost from_gives = { λ draft token. token ≡ Rested draft };
 
-    // The draft once the header leads to it.
-    pub(crate) fn switched(self) -> Switched
-        ensures { result.live ≡ self.live }
-    {
-        let Rested { live } = self;
-        Switched { live }
+    fn from(draft: Ticket<AtRested>) -> Token {
+        Token::Rested(draft)
     }
 }
 
-impl Switched {
-    // A live draft.
-    pub(crate) fn new() -> Self
-        ensures { result.live ≡ 1 }
-    {
-        Switched { live: 1 }
-    }
+impl From<Switched> for Token {
+    ghost use Rattle.holder.specs.declared.token.Token.TheVariants.{Switched};
 
-    // Spends the draft.
-    pub(crate) fn spend(self) {
-        let mut draft = self;
-        draft.live = 0;
+    ghost from_gives = { λ draft token. token ≡ Switched draft };
+
+    fn from(draft: Ticket<AtSwitched>) -> Token {
+        Token::Switched(draft)
     }
 }

@@ -25,16 +25,16 @@ pub record Fits (n : ℕ) (d : Draft) (p : Picture) : Type 0 where
 
 -- the outline by the picture that is seen
 abbrev pub seen_outline : Draft → Picture → Outline
-seen_outline d p = outlines.outline_of d.plan.endian d.plan.tiled d.plan.wide d.plan.high (viewed p d.view)
+seen_outline d p = outlines.outline_of d.plan.endian d.plan.pieces (viewed p d.view)
 
 pub outline_is : (d : Draft) (p : Picture) → shows p d.view ≡ true → seen_outline d p ≡ outline_of d p
-outline_is d p t = viewed_outline d.plan.endian d.plan.tiled d.plan.wide d.plan.high p d.view t
+outline_is d p t = viewed_outline d.plan.endian d.plan.pieces p d.view t
 
 pub length_block_of : (d : Draft) (p : Picture) → Sound p → shows p d.view ≡ true → length (block_of d p) ≡ size_of d p
 unfolding block_of
 length_block_of d p s t =
     let v = views_show p d.view t in
-    let proper : Proper (outline_of d p) = subst Proper (outline_is d p t) (outline_proper d.plan.endian d.plan.tiled d.plan.wide d.plan.high (viewed p d.view) d.plan.limits (v.sound s) v.some) in
+    let proper : Proper (outline_of d p) = subst Proper (outline_is d p t) (outline_proper d.plan.endian d.plan.pieces (viewed p d.view) d.plan.limits (v.sound s) v.some) in
     length_block (outline_of d p) (viewed p d.view).at proper d.place
 
 -- with the header that leads to it, the block opens as the picture through the view
@@ -44,7 +44,7 @@ unfolding block_of
 draft_opens bs d p s f short here head =
     let v = views_show p d.view f.shows in
     let e = outline_is d p f.shows in
-    round_trip d.plan.endian d.plan.tiled d.plan.wide d.plan.high (viewed p d.view) d.place bs
+    round_trip d.plan.endian d.plan.pieces (viewed p d.view) d.place bs
     (record {
       limits = d.plan.limits;
       sound = v.sound s;

@@ -1,9 +1,8 @@
 -- Laws of the header, of a followed link and of the walk, and what the code's tests say of them.
-use Rattle.std.proofs.Common.{◌≡◌, ℕ, suc, ◌+◌, ◌-◌, ◌<◌, ◌≤◌, Bool, true, false, eqb, ltb, List, [], ◌∷◌, ◌++◌, length, take, drop, set, Ok, Err, Result, sym, refl, ap, ◌∙◌, arith}
-use native.Mathlib.Nat.{sub-zero}
+use Rattle.std.proofs.Common.{◌≡◌, ℕ, suc, ◌+◌, ◌-◌, ◌<◌, ◌≤◌, Bool, true, false, eqb, ltb, List, [], ◌∷◌, ◌++◌, length, take, Ok, Err, Result, sym, refl, ap, ◌∙◌, arith}
 use Rattle.std.specs.List.{IsAnyAnswer}
 use Rattle.std.proofs.lemmas.List.Elements.{contains_decides}
-use Rattle.std.proofs.lemmas.List.{take_more_set, drop-set-lt, drop-drop}
+use Rattle.std.proofs.lemmas.List.{length_push}
 use Rattle.std.proofs.lemmas.Bool.{ltb-false}
 use Rattle.std.proofs.lemmas.Bool.Decides.{same_from_decides, Decides-by_or, Decides-eqb, nat_tests}
 use Rattle.octets.specs.declared.endian.Endian.{Endian}
@@ -66,20 +65,14 @@ turns_left o bs met field n h = let k : 33 - n ≡ suc (32 - n) = omega arith in
 pub link_is : (o : Endian) (bs cs : List ℕ) (field link : ℕ) → field + 4 ≤ length bs → cs ≡ bs → link ≡ long_at o cs field → link ≡ long o bs field
 link_is o bs cs field link h e k = k ∙ ap (λ xs. long_at o xs field) e ∙ long_inside o bs field h
 
--- what the code's `follow` answers in a turn of its loop, over the part of an array that is in use
-pub follow_tells : (o : Endian) (bs cs xs : List ℕ) (n field link : ℕ) (r : Result ℕ Fault) → cs ≡ bs → link ≡ long o bs field → r ≡ followed o cs (take (n - 0) xs) field link → followed o bs (take n xs) field (long o bs field) ≡ r
-follow_tells o bs cs xs n field link r e k h = let z = sub-zero n in cc
+-- what the code's `follow` answers in a turn of its loop
+pub follow_tells : (o : Endian) (bs cs met : List ℕ) (field link : ℕ) (r : Result ℕ Fault) → cs ≡ bs → link ≡ long o bs field → r ≡ followed o cs met field link → followed o bs met field (long o bs field) ≡ r
+follow_tells o bs cs met field link r e k h = cc
 
--- a turn that goes on, over the array with the link written into it
-pub walk_turns : (o : Endian) (bs xs ys : List ℕ) (n field link next : ℕ) → ys ≡ set xs n link → n ≤ 32 → n < length xs → link ≡ long o bs field → ended (take n xs) (long o bs field) ≡ false → followed o bs (take n xs) field (long o bs field) ≡ Ok next → walk_from (33 - (n + 1)) o bs (take (n + 1) ys) next ≡ walk_from (33 - n) o bs (take n xs) field
-walk_turns o bs xs ys n field link next w h l k e q =
-    let t = ap (take (n + 1)) w ∙ take_more_set xs n link l in
-    let j : 33 - (n + 1) ≡ 32 - n = omega arith in
-    ap (λ m. walk_from m o bs (take (n + 1) ys) next) j
-    ∙ ap (λ ds. walk_from (32 - n) o bs ds next) (t ∙ ap (λ d. take n xs ++ d ∷ []) k)
-    ∙ sym (turns_left o bs (take n xs) field n h ∙ turn_goes o bs (take n xs) field (32 - n) next e q)
-
--- what lies past the part in use stays
-pub rest_stays : (xs ys zs : List ℕ) (n link : ℕ) → ys ≡ set xs n link → drop n xs ≡ drop n zs → drop (n + 1) ys ≡ drop (n + 1) zs
-rest_stays xs ys zs n link w e =
-    ap (drop (n + 1)) w ∙ drop-set-lt (n + 1) xs n link (omega arith) ∙ sym (drop-drop 1 n xs) ∙ ap (drop 1) e ∙ drop-drop 1 n zs
+-- a turn that goes on
+pub walk_turns : (o : Endian) (bs met : List ℕ) (field next : ℕ) → length met ≤ 32 → ended met (long o bs field) ≡ false → followed o bs met field (long o bs field) ≡ Ok next
+    → walk_from (33 - length (met ++ long o bs field ∷ [])) o bs (met ++ long o bs field ∷ []) next ≡ walk_from (33 - length met) o bs met field
+walk_turns o bs met field next h e q =
+    let ds = met ++ long o bs field ∷ [] in
+    let j : 33 - length ds ≡ 32 - length met = omega (arith, length_push met (long o bs field)) in
+    ap (λ m. walk_from m o bs ds next) j ∙ sym (turns_left o bs met field (length met) h ∙ turn_goes o bs met field (32 - length met) next e q)

@@ -1,49 +1,36 @@
 // The checks of the header and of the links.
-ghost use Rattle.std.specs.Prelude.{◌≡◌, ℕ, ◌<◌, ◌≤◌, List, length, drop, IfOk, slice_set};
-ghost use Rattle.std.specs.Str.{bytes_eq};
-ghost use Rattle.store.specs.Rules.{NoGain};
-ghost use Rattle.links.specs.Links.{named, headed, has, stray, bad_count, link_checked, directory_checked, followed, chained, noted, walked};
+ghost use Rattle.std.specs.Prelude.{◌≡◌, ℕ, ◌≤◌, List, length};
+ghost use Rattle.store.specs.Looking.{Looked};
+ghost use Rattle.links.specs.Links.{named, headed, has, stray, bad_count, link_checked, directory_checked, followed, linked, walked};
 ghost use Rattle.links.specs.Chain.{ChainFound, ChainLocal};
 
 use crate::directories::{Directories, MOST};
+use arrayvec::ArrayVec;
 use faults::fault::{Check, Fault};
 use octets::endian::Endian;
-use reads::numbers::{fill, read_long, read_short};
+use reads::numbers::{read, read_array};
 use store::traits::Store;
-
-// Whether four bytes are those given.
-fn is_same(head: [u8; 4], given: [u8; 4]) -> bool
-    ensures { result ≡ bytes_eq head given }
-{
-    head == given
-}
 
 // The byte order that the first four bytes name.
 fn order_of(head: [u8; 4]) -> Result<Endian, Fault>
     ensures { result ≡ named head }
 {
-    if is_same(head, *b"II*\0") {
-        Ok(Endian::Little)
-    } else if is_same(head, *b"MM\0*") {
-        Ok(Endian::Big)
-    } else {
-        Err(Check::Magic.fault())
+    match &head {
+        b"II*\0" => Ok(Endian::Little),
+        b"MM\0*" => Ok(Endian::Big),
+        _ => Err(Check::Magic.fault()),
     }
 }
 
 // The byte order of a file.
 fn check_header<S: Store>(store: &mut S) -> Result<Endian, Fault>
     ensures value { result ≡ headed (S.Store.seen store.old) }
-    ensures same { S.Store.seen store.new ≡ S.Store.seen store.old }
-    ensures lists { NoGain (S.Store.may store.old) (S.Store.may store.new) }
-    ensures trails { NoGain (S.Store.trail store.old) (S.Store.trail store.new) }
+    ensures looked { Looked S.Store.seen S.Store.may S.Store.trail store.old store.new }
 {
     if store.length() < 8 {
         return Err(Check::Short.fault());
     }
-    let mut head = [0u8; 4];
-    fill(store, 0, &mut head);
-    order_of(head)
+    order_of(read_array(store, 0))
 }
 
 // Whether no directory of a file of n bytes can stand where a link leads.
@@ -61,16 +48,15 @@ fn is_bad_count(entries: u16) -> bool
 }
 
 // Whether a link leads to a directory that was met.
-fn is_met(met: &[u32], link: u32) -> bool
-    ensures { result ≡ has met.now link }
+fn is_met(met: &ArrayVec<u32, MOST>, link: u32) -> bool
+    ensures { result ≡ has met.now.items link }
 {
     met.contains(&link)
 }
 
 // The checks of a link that stands at `field`, after the directories met.
-fn check_link(n: u32, met: &[u32], field: u32, link: u32) -> Result<(), Fault>
-    requires { length met.now ≤ 32 }
-    ensures { result ≡ link_checked n met.now field link }
+fn check_link(n: u32, met: &ArrayVec<u32, MOST>, field: u32, link: u32) -> Result<(), Fault>
+    ensures { result ≡ link_checked n met.now.items field link }
 {
     let page = met.len() as u32;
     if is_stray(n, link) {
@@ -79,7 +65,7 @@ fn check_link(n: u32, met: &[u32], field: u32, link: u32) -> Result<(), Fault>
     if is_met(met, link) {
         return Err(Check::Cycle.fault_at(page, 0, field));
     }
-    if met.len() >= MOST {
+    if met.is_full() {
         return Err(Check::Chain.fault_at(page, 0, field));
     }
     Ok(())
@@ -99,81 +85,49 @@ fn check_directory(n: u32, page: u32, place: u32, entries: u16) -> Result<u32, F
     Ok(end as u32)
 }
 
-// Notes the place of directory `count`.
-fn note(visited: &mut [u32; MOST], count: usize, link: u32)
-    requires { count < 32 }
-    ensures { visited.new ≡ slice_set visited.old count link }
-{
-    visited[count] = link;
-}
-
 // Follows a link that stands at `field`, after the directories met: the place of the next link, or the first fault.
 fn follow<S: Store>(
     store: &mut S,
     endian: Endian,
-    met: &[u32],
+    met: &ArrayVec<u32, MOST>,
     field: u32,
     link: u32,
 ) -> Result<u32, Fault>
-    requires { length met.now ≤ 32 }
-    ensures value { result ≡ followed endian (S.Store.seen store.old) met.now field link }
-    ensures same { S.Store.seen store.new ≡ S.Store.seen store.old }
-    ensures lists { NoGain (S.Store.may store.old) (S.Store.may store.new) }
-    ensures trails { NoGain (S.Store.trail store.old) (S.Store.trail store.new) }
+    ensures value { result ≡ followed endian (S.Store.seen store.old) met.now.items field link }
+    ensures looked { Looked S.Store.seen S.Store.may S.Store.trail store.old store.new }
 {
     let n = store.length();
     check_link(n, met, field, link)?;
-    let entries = read_short(store, endian, link);
+    let entries: u16 = read(store, endian, link);
     check_directory(n, met.len() as u32, link, entries)
 }
 
-// The number of directories, with their places noted in `visited`, or the first fault.
-fn follow_links<S: Store>(
-    store: &mut S,
-    endian: Endian,
-    visited: &mut [u32; MOST],
-) -> Result<u32, Fault>
+// The directories of a file of a byte order, or the first fault.
+fn follow_links<S: Store>(store: &mut S, endian: Endian) -> Result<Directories, Fault>
     requires { 8 ≤ length (S.Store.seen store.old) }
-    ensures value { noted result visited.new ≡ chained endian (S.Store.seen store.old) }
-    ensures few { IfOk result (λ n. n ≤ 32) }
-    ensures rest { IfOk result (λ n. drop n visited.new ≡ drop n visited.old) }
-    ensures same { S.Store.seen store.new ≡ S.Store.seen store.old }
-    ensures lists { NoGain (S.Store.may store.old) (S.Store.may store.new) }
-    ensures trails { NoGain (S.Store.trail store.old) (S.Store.trail store.new) }
+    ensures value { result ≡ linked endian (S.Store.seen store.old) }
+    ensures looked { Looked S.Store.seen S.Store.may S.Store.trail store.old store.new }
 {
-    let mut count = 0;
+    let mut places: ArrayVec<u32, MOST> = ArrayVec::new();
     let mut field = 4;
+    // How many links there are only the links say: a loop, which ends since no more than MOST are followed.
     loop {
-        let link = read_long(store, endian, field);
-        if count > 0 && link == 0 {
-            break Ok(count as u32);
+        let link: u32 = read(store, endian, field);
+        if link == 0 && !places.is_empty() {
+            return Ok(Directories { endian, places });
         }
-        match follow(store, endian, &visited[0..count], field, link) {
-            Ok(next) => {
-                note(visited, count, link);
-                count += 1;
-                field = next;
-            }
-            Err(fault) => break Err(fault),
-        }
+        field = follow(store, endian, &places, field, link)?;
+        places.push(link);
     }
 }
 
 // The directories of a file, or the first fault.
 pub fn walk<S: Store>(store: &mut S) -> Result<Directories, Fault>
     ensures value { result ≡ walked (S.Store.seen store.old) }
-    ensures same { S.Store.seen store.new ≡ S.Store.seen store.old }
-    ensures lists { NoGain (S.Store.may store.old) (S.Store.may store.new) }
-    ensures trails { NoGain (S.Store.trail store.old) (S.Store.trail store.new) }
+    ensures looked { Looked S.Store.seen S.Store.may S.Store.trail store.old store.new }
 {
     let endian = check_header(store)?;
-    let mut places = [0u32; MOST];
-    let count = follow_links(store, endian, &mut places)?;
-    Ok(Directories {
-        endian,
-        count,
-        places,
-    })
+    follow_links(store, endian)
 }
 
 // The theorem that the walk accepts just the files whose directories are well linked, and finds those.

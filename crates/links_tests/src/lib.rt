@@ -26,20 +26,12 @@ mod tests {
 
     // The fault with which a walk is refused.
     fn refusal(bytes: &[u8]) -> Option<Fault> {
-        let mut chip = Chip::new(bytes);
-        match walk(&mut chip) {
-            Ok(_) => None,
-            Err(fault) => Some(fault),
-        }
+        walk(&mut Chip::new(bytes)).err()
     }
 
     // The directories that a walk finds.
     fn found(bytes: &[u8]) -> Option<Directories> {
-        let mut chip = Chip::new(bytes);
-        match walk(&mut chip) {
-            Ok(directories) => Some(directories),
-            Err(_) => None,
-        }
+        walk(&mut Chip::new(bytes)).ok()
     }
 
     // A chain of directories of one entry each, the first at 8, each 18 bytes after the one before.
@@ -47,17 +39,13 @@ mod tests {
         requires { count ≤ 33 }
     {
         let mut bytes = [0u8; 602];
-        bytes[0] = b'I';
-        bytes[1] = b'I';
-        bytes[2] = 42;
-        bytes[4] = 8;
-        for k in 0..count {
-            let place = 8 + 18 * k;
+        bytes[..5].copy_from_slice(b"II*\0\x08");
+        let end = 8 + 18 * count;
+        for place in (8..end).step_by(18) {
             bytes[place] = 1;
-            if k + 1 < count {
-                let next = place + 18;
-                bytes[place + 14] = (next % 256) as u8;
-                bytes[place + 15] = (next / 256) as u8;
+            let next = place + 18;
+            if next < end {
+                bytes[place + 14..place + 16].copy_from_slice(&(next as u16).to_le_bytes());
             }
         }
         bytes
@@ -67,10 +55,10 @@ mod tests {
     fn one_low_byte_first(rt: HostRuntime) -> Result<(), Fail> {
         let d = found(&ONE_II).ok_or("refused")?;
         assert_eq!(rt; d.endian, Endian::Little);
-        assert_eq!(rt; d.count, 1);
+        assert_eq!(rt; d.count(), 1);
         assert_eq!(rt; d.place(0), Ok(8));
         assert_eq!(rt; d.place(1), Err(Check::Page.fault()));
-        assert_eq!(rt; d.places[1], 0);
+        assert_eq!(rt; d.places.get(1).copied(), None);
         Ok(())
     }
 
@@ -78,7 +66,7 @@ mod tests {
     fn one_high_byte_first(rt: HostRuntime) -> Result<(), Fail> {
         let d = found(&ONE_MM).ok_or("refused")?;
         assert_eq!(rt; d.endian, Endian::Big);
-        assert_eq!(rt; d.count, 1);
+        assert_eq!(rt; d.count(), 1);
         assert_eq!(rt; d.place(0), Ok(8));
         Ok(())
     }
@@ -86,12 +74,12 @@ mod tests {
     #[test]
     fn two_in_both_orders(rt: HostRuntime) -> Result<(), Fail> {
         let little = found(&TWO_II).ok_or("refused")?;
-        assert_eq!(rt; little.count, 2);
+        assert_eq!(rt; little.count(), 2);
         assert_eq!(rt; little.place(0), Ok(8));
         assert_eq!(rt; little.place(1), Ok(26));
         assert_eq!(rt; little.place(2), Err(Check::Page.fault()));
         let big = found(&TWO_MM).ok_or("refused")?;
-        assert_eq!(rt; big.count, 2);
+        assert_eq!(rt; big.count(), 2);
         assert_eq!(rt; big.place(0), Ok(8));
         assert_eq!(rt; big.place(1), Ok(26));
         Ok(())
@@ -100,7 +88,7 @@ mod tests {
     #[test]
     fn thirty_two(rt: HostRuntime) -> Result<(), Fail> {
         let d = found(&chain(32)).ok_or("refused")?;
-        assert_eq!(rt; d.count, 32);
+        assert_eq!(rt; d.count(), 32);
         assert_eq!(rt; d.place(31), Ok(566));
         assert_eq!(rt; d.place(32), Err(Check::Page.fault()));
         Ok(())
@@ -130,8 +118,7 @@ mod tests {
         bytes[1] = b'M';
         assert_eq!(rt; refusal(&bytes), Some(Check::Magic.fault()));
         let mut swapped = ONE_MM;
-        swapped[2] = 42;
-        swapped[3] = 0;
+        swapped.swap(2, 3);
         assert_eq!(rt; refusal(&swapped), Some(Check::Magic.fault()));
     }
 
@@ -148,10 +135,7 @@ mod tests {
         assert_eq!(rt; refusal(&bytes), Some(Check::Link.fault_at(0, 0, 4)));
         bytes[4] = 24;
         assert_eq!(rt; refusal(&bytes), Some(Check::Count.fault_at(0, 0, 24)));
-        bytes[4] = 0xFF;
-        bytes[5] = 0xFF;
-        bytes[6] = 0xFF;
-        bytes[7] = 0xFF;
+        bytes[4..8].fill(0xFF);
         assert_eq!(rt; refusal(&bytes), Some(Check::Link.fault_at(0, 0, 4)));
     }
 
@@ -161,7 +145,7 @@ mod tests {
         bytes[22] = 4;
         assert_eq!(rt; refusal(&bytes), Some(Check::Link.fault_at(1, 0, 22)));
         bytes[22] = 0;
-        assert_eq!(rt; found(&bytes).ok_or("refused")?.count, 1);
+        assert_eq!(rt; found(&bytes).ok_or("refused")?.count(), 1);
         Ok(())
     }
 
@@ -185,12 +169,8 @@ mod tests {
         bytes[27] = 65;
         assert_eq!(rt; refusal(&bytes), Some(Check::Count.fault_at(1, 0, 26)));
         let mut most = [0u8; 782];
-        most[0] = b'I';
-        most[1] = b'I';
-        most[2] = 42;
-        most[4] = 8;
-        most[8] = 64;
-        assert_eq!(rt; found(&most).ok_or("refused")?.count, 1);
+        most[..9].copy_from_slice(b"II*\0\x08\0\0\0\x40");
+        assert_eq!(rt; found(&most).ok_or("refused")?.count(), 1);
         Ok(())
     }
 

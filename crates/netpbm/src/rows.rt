@@ -1,123 +1,112 @@
-// The rows of a rectangle of any grid, written into a buffer from a place on; each call answers the place after.
-ghost use Rattle.std.specs.Prelude.{◌≡◌, ℕ, ◌+◌, ◌*◌, ◌<◌, ◌≤◌, true, List, length};
-ghost use Rattle.octets.specs.Writes.{Put};
+// The rows of any grid, written at a cursor.
+// One loop that takes what to write as a closure would be no plainer: the closure asks the grid and writes, so its contract repeats these.
+ghost use Rattle.std.specs.Prelude.{◌≡◌, ℕ, ◌*◌, ◌<◌, true};
 ghost use Rattle.raster.specs.Picture.{Picture};
-ghost use Rattle.raster.specs.Views.{fits, rectangle};
+ghost use Rattle.pnm.specs.Cursors.{HasRoom, Wrote};
 ghost use Rattle.pnm.specs.Netpbm.{bilevel, pixel_row, black, octet, octet_row, row_bytes, body};
+ghost use Rattle.netpbm.specs.Asked.{Asked};
 
-use pnm::output::*;
-use pnm::pixels::*;
+use pnm::cursor::Cursor;
+use pnm::format::Format;
+use pnm::layout::Layout;
 use raster::grid::*;
 
-// The pixel at a column and a row of an area that fits.
-fn sample<G: Grid>(grid: &mut G, area: Area, column: u32, row: u32) -> u32
-    requires fits { fits (G.picture grid.old) area ≡ true }
-    requires column { column < area.width }
-    requires row { row < area.height }
-    ensures value { result ≡ (rectangle (G.picture grid.old) area).at column row }
-    ensures kept { G.picture grid.new ≡ G.picture grid.old }
-    ensures keeps { G.keeps.across grid.old grid.new }
+// The format that a grid is printed in.
+pub fn format_of<G: Grid>(grid: &G) -> Format
+    ensures { result.kind ≡ (G.picture grid.now).kind }
 {
-    match grid.pixel(area.x + column, area.y + row) {
+    Format { kind: grid.kind() }
+}
+
+// The pixel at a column and a row.
+fn sample<G: Grid>(grid: &mut G, column: u32, row: u32) -> u32
+    requires column { column < (G.picture grid.old).width }
+    requires row { row < (G.picture grid.old).height }
+    ensures value { result ≡ (G.picture grid.old).at column row }
+    ensures asked { Asked G.picture G.keeps grid.old grid.new }
+{
+    match grid.pixel(column, row) {
         Ok(v) => v,
         Err(_) => unreachable(),
     }
 }
 
 // A row of grey or RGB pixels.
-fn put_pixels<G: Grid>(grid: &mut G, area: Area, row: u32, buffer: &mut [u8], at: usize) -> usize
-    requires fits { fits (G.picture grid.old) area ≡ true }
-    requires row { row < area.height }
-    requires room { at + length (pixel_row (rectangle (G.picture grid.old) area) row) ≤ length buffer.old }
-    ensures put { Put buffer.old at (pixel_row (rectangle (G.picture grid.old) area) row) buffer.new result }
-    ensures kept { G.picture grid.new ≡ G.picture grid.old }
-    ensures keeps { G.keeps.across grid.old grid.new }
+fn put_pixels<G: Grid>(grid: &mut G, row: u32, out: &mut Cursor<'_>)
+    requires row { row < (G.picture grid.old).height }
+    requires room { HasRoom out.old (pixel_row (G.picture grid.old) row) }
+    ensures wrote { Wrote out.old (pixel_row (G.picture grid.old) row) out.new }
+    ensures asked { Asked G.picture G.keeps grid.old grid.new }
 {
-    let kind = grid.kind();
-    let mut end = at;
-    for column in 0..area.width {
-        let v = sample(grid, area, column, row);
-        end = put_pixel(buffer, end, kind, v);
+    let format = format_of(grid);
+    for column in 0..grid.size().width {
+        let v = sample(grid, column, row);
+        format.put_pixel(v, out);
     }
-    end
 }
 
 // A bilevel pixel, 1 for black; 0 past the last column.
-fn bit<G: Grid>(grid: &mut G, area: Area, row: u32, column: u32) -> u8
-    requires fits { fits (G.picture grid.old) area ≡ true }
+fn bit<G: Grid>(grid: &mut G, row: u32, column: u32) -> u8
     requires bilevel { bilevel (G.picture grid.old).kind ≡ true }
-    requires row { row < area.height }
-    ensures value { result ≡ black (rectangle (G.picture grid.old) area) row column }
-    ensures kept { G.picture grid.new ≡ G.picture grid.old }
-    ensures keeps { G.keeps.across grid.old grid.new }
+    requires row { row < (G.picture grid.old).height }
+    ensures value { result ≡ black (G.picture grid.old) row column }
+    ensures asked { Asked G.picture G.keeps grid.old grid.new }
 {
-    if column >= area.width {
+    if column >= grid.size().width {
         return 0;
     }
-    let kind = grid.kind();
-    1 - grey(kind, sample(grid, area, column, row))
+    let format = format_of(grid);
+    1 - format.grey(sample(grid, column, row))
 }
 
 // Eight bilevel pixels, the first in the highest bit.
-fn octet<G: Grid>(grid: &mut G, area: Area, row: u32, place: u32) -> u8
-    requires fits { fits (G.picture grid.old) area ≡ true }
+fn octet<G: Grid>(grid: &mut G, row: u32, place: u32) -> u8
     requires bilevel { bilevel (G.picture grid.old).kind ≡ true }
-    requires row { row < area.height }
-    requires place { 8 * place < area.width }
-    ensures value { result ≡ octet (rectangle (G.picture grid.old) area) row place }
-    ensures kept { G.picture grid.new ≡ G.picture grid.old }
-    ensures keeps { G.keeps.across grid.old grid.new }
+    requires row { row < (G.picture grid.old).height }
+    requires place { 8 * place < (G.picture grid.old).width }
+    ensures value { result ≡ octet (G.picture grid.old) row place }
+    ensures asked { Asked G.picture G.keeps grid.old grid.new }
 {
     let mut value = 0;
+    // Each bit asks the grid, which a closure would have to borrow.
     for i in 0..8 {
-        value = 2 * value + bit(grid, area, row, 8 * place + i);
+        value = 2 * value + bit(grid, row, 8 * place + i);
     }
     value
 }
 
 // A row of bilevel pixels, eight to a byte.
-fn put_octets<G: Grid>(grid: &mut G, area: Area, row: u32, buffer: &mut [u8], at: usize) -> usize
-    requires fits { fits (G.picture grid.old) area ≡ true }
+fn put_octets<G: Grid>(grid: &mut G, row: u32, out: &mut Cursor<'_>)
     requires bilevel { bilevel (G.picture grid.old).kind ≡ true }
-    requires row { row < area.height }
-    requires room { at + length (octet_row (rectangle (G.picture grid.old) area) row) ≤ length buffer.old }
-    ensures put { Put buffer.old at (octet_row (rectangle (G.picture grid.old) area) row) buffer.new result }
-    ensures kept { G.picture grid.new ≡ G.picture grid.old }
-    ensures keeps { G.keeps.across grid.old grid.new }
+    requires row { row < (G.picture grid.old).height }
+    requires room { HasRoom out.old (octet_row (G.picture grid.old) row) }
+    ensures wrote { Wrote out.old (octet_row (G.picture grid.old) row) out.new }
+    ensures asked { Asked G.picture G.keeps grid.old grid.new }
 {
-    let mut end = at;
-    for place in 0..area.width.div_ceil(8) {
-        let b = octet(grid, area, row, place);
-        end = put_byte(buffer, end, b);
-    }
-    end
-}
-
-fn put_row<G: Grid>(grid: &mut G, area: Area, row: u32, buffer: &mut [u8], at: usize) -> usize
-    requires fits { fits (G.picture grid.old) area ≡ true }
-    requires row { row < area.height }
-    requires room { at + length (row_bytes (rectangle (G.picture grid.old) area) row) ≤ length buffer.old }
-    ensures put { Put buffer.old at (row_bytes (rectangle (G.picture grid.old) area) row) buffer.new result }
-    ensures kept { G.picture grid.new ≡ G.picture grid.old }
-    ensures keeps { G.keeps.across grid.old grid.new }
-{
-    if is_bilevel(grid.kind()) {
-        put_octets(grid, area, row, buffer, at)
-    } else {
-        put_pixels(grid, area, row, buffer, at)
+    for place in 0..grid.size().width.div_ceil(8) {
+        let b = octet(grid, row, place);
+        out.put_byte(b);
     }
 }
 
-pub fn put_body<G: Grid>(grid: &mut G, area: Area, buffer: &mut [u8], at: usize) -> usize
-    requires fits { fits (G.picture grid.old) area ≡ true }
-    requires room { at + length (body (rectangle (G.picture grid.old) area)) ≤ length buffer.old }
-    ensures put { Put buffer.old at (body (rectangle (G.picture grid.old) area)) buffer.new result }
-    ensures kept { G.picture grid.new ≡ G.picture grid.old }
-    ensures keeps { G.keeps.across grid.old grid.new }
+fn put_row<G: Grid>(grid: &mut G, row: u32, out: &mut Cursor<'_>)
+    requires row { row < (G.picture grid.old).height }
+    requires room { HasRoom out.old (row_bytes (G.picture grid.old) row) }
+    ensures wrote { Wrote out.old (row_bytes (G.picture grid.old) row) out.new }
+    ensures asked { Asked G.picture G.keeps grid.old grid.new }
 {
-    let mut end = at;
-    for row in 0..area.height {
-        end = put_row(grid, area, row, buffer, end);
+    match Layout::of(grid.kind()) {
+        Layout::Bitmap => put_octets(grid, row, out),
+        _ => put_pixels(grid, row, out),
     }
-    end
+}
+
+pub fn put_body<G: Grid>(grid: &mut G, out: &mut Cursor<'_>)
+    requires { HasRoom out.old (body (G.picture grid.old)) }
+    ensures wrote { Wrote out.old (body (G.picture grid.old)) out.new }
+    ensures asked { Asked G.picture G.keeps grid.old grid.new }
+{
+    for row in 0..grid.size().height {
+        put_row(grid, row, out);
+    }
 }

@@ -1,13 +1,11 @@
 // A rectangle of any grid as a Netpbm file.
-ghost use Rattle.std.specs.Prelude.{◌≡◌, ℕ, ◌+◌, ◌*◌, ◌<◌, ◌≤◌, true, List, length, nat_le};
-ghost use Rattle.raster.specs.Picture.{Picture};
-ghost use Rattle.raster.specs.Views.{fits, rectangle};
+ghost use Rattle.std.specs.Prelude.{◌≡◌, length, nat_le};
 ghost use Rattle.netpbm.specs.Window.{window_answer, window_buffer};
 
-use crate::rows::put_body;
+use crate::file::{file_len, put_file};
+use crate::part::Part;
 use faults::fault::{Check, Fault};
-use pnm::head::*;
-use pnm::pixels::row_len;
+use pnm::cursor::Cursor;
 use raster::crop::fits;
 use raster::grid::*;
 
@@ -28,15 +26,11 @@ pub fn window<G: Grid>(grid: &mut G, area: Area, buffer: &mut [u8]) -> Result<us
     if !fits(grid, area) {
         return Err(Check::Outside.fault());
     }
-    let kind = grid.kind();
-    let size = Size {
-        width: area.width,
-        height: area.height,
-    };
-    let len = head_len(size, kind) + row_len(area.width, kind) * area.height as usize;
-    if !has_room(buffer.len(), len) {
+    let mut part = Part { grid, area };
+    if !has_room(buffer.len(), file_len(&part)) {
         return Err(Check::Small.fault());
     }
-    let at = put_head(buffer, size, kind);
-    Ok(put_body(grid, area, buffer, at))
+    let mut out = Cursor { buffer, place: 0 };
+    put_file(&mut part, &mut out);
+    Ok(out.place)
 }

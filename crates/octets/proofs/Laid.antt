@@ -1,10 +1,10 @@
 -- Laws of bytes replaced one after the other, as far as there is room, and sector by sector. Assumes nothing.
-use Rattle.std.proofs.Common.{◌≡◌, ℕ, ◌+◌, ◌-◌, ◌*◌, ◌/◌, ◌%◌, ◌<◌, ◌≤◌, ◌⊎◌, List, ◌++◌, length, get_or, take, drop, sym, refl, ap, ◌∙◌, ⊎_elim, arith, length-append, length-drop, take-append-drop, length-take, take-add}
-use Rattle.std.proofs.lemmas.List.{ext_get_or, get_or_append_left, get_or-append_right, get_or-take, get_or-drop, drop-drop, nil_from_length}
+use Rattle.std.proofs.Common.{◌≡◌, ℕ, ◌+◌, ◌-◌, ◌*◌, ◌/◌, ◌%◌, ◌<◌, ◌≤◌, ◌⊎◌, List, ◌++◌, length, get_or, take, drop, sym, ap, ◌∙◌, ⊎_elim, arith, length-drop, take-append-drop, length-take, take-add}
+use Rattle.std.proofs.lemmas.List.{ext_get_or, get_or-take, get_or-drop, drop-drop, nil_from_length}
 use Rattle.std.proofs.lemmas.Bool.{cases_lt}
 use borrow.Rule.Slice.PartMut.{put_mid}
 use Rattle.octets.specs.Sectors.{sector, patched, laid}
-use Rattle.octets.proofs.Patches.{length_patched, get_or_patched_below, get_or_patched_in, get_or_patched_above, get_or_sector}
+use Rattle.octets.proofs.Patches.{length_patched, patched_append, get_or_patched_below, get_or_patched_in, get_or_patched_above, get_or_sector}
 
 pub none_patched : (xs : List ℕ) (p : ℕ) (ys : List ℕ) → length ys ≡ 0 → patched xs p ys ≡ xs
 unfolding patched
@@ -51,32 +51,6 @@ patched_out xs p ys j d h out = ⊎_elim (λ (k : j < p). get_or_patched_below x
 pub mid_patched : (a k : ℕ) (xs ys : List ℕ) → k ≡ length ys → put_mid a k xs ys ≡ patched xs a ys
 unfolding patched
 mid_patched a k xs ys e = rw drop-drop (ap (λ (n : ℕ). take a xs ++ (ys ++ drop (a + n) xs)) e)
-
-pub patched_append : (xs : List ℕ) (p : ℕ) (a b : List ℕ) → p + (length a + length b) ≤ length xs → patched (patched xs p a) (p + length a) b ≡ patched xs p (a ++ b)
-patched_append xs p a b h =
-    let n = length-append a b in
-    let u = length_patched xs p a (omega arith) in
-    let v = length_patched (patched xs p a) (p + length a) b (omega arith) in
-    let w = length_patched xs p (a ++ b) (omega arith) in
-    ext_get_or 0 _ _ (omega arith) (λ j l.
-    ⊎_elim
-    (λ (k : j < p + length a).
-    get_or_patched_below (patched xs p a) (p + length a) b j 0 (omega arith) k
-    ∙ ⊎_elim
-    (λ (m : j < p). get_or_patched_below xs p a j 0 (omega arith) m ∙ sym (get_or_patched_below xs p (a ++ b) j 0 (omega arith) m))
-    (λ (m : p ≤ j). get_or_patched_in xs p a j 0 (omega arith) m k ∙ sym (get_or_patched_in xs p (a ++ b) j 0 (omega arith) m (omega arith) ∙ get_or_append_left a b 0 (j - p) (omega arith)))
-    (cases_lt j p))
-    (λ (k : p + length a ≤ j).
-    ⊎_elim
-    (λ (m : j < p + length a + length b).
-    get_or_patched_in (patched xs p a) (p + length a) b j 0 (omega arith) k m
-    ∙ ap (λ (z : ℕ). get_or b z 0) (let q : j - (p + length a) ≡ j - p - length a = omega arith in q)
-    ∙ sym (get_or_patched_in xs p (a ++ b) j 0 (omega arith) (omega arith) (omega arith) ∙ get_or-append_right a b (length a) (j - p) 0 refl (omega arith)))
-    (λ (m : p + length a + length b ≤ j).
-    get_or_patched_above (patched xs p a) (p + length a) b j 0 (omega arith) m
-    ∙ get_or_patched_above xs p a j 0 (omega arith) k ∙ sym (get_or_patched_above xs p (a ++ b) j 0 (omega arith) (omega arith)))
-    (cases_lt j (p + length a + length b)))
-    (cases_lt j (p + length a)))
 
 pub patched_more : (xs : List ℕ) (p : ℕ) (ys : List ℕ) (n m : ℕ) → n + m ≤ length ys → p + length ys ≤ length xs
     → patched (patched xs p (take n ys)) (p + n) (take m (drop n ys)) ≡ patched xs p (take (n + m) ys)

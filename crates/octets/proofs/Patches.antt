@@ -1,6 +1,6 @@
 -- Laws of parts of bytes, of bytes replaced, and of sectors. Assumes nothing.
 use Rattle.std.proofs.Common.{◌≡◌, ℕ, ◌+◌, ◌-◌, ◌*◌, ◌<◌, ◌≤◌, min, ◌⊎◌, List, ◌++◌, length, get_or, take, drop, sym, refl, ap, ◌∙◌, inl, inr, ⊎_elim, arith, length-append, length-drop, length-take}
-use Rattle.std.proofs.lemmas.List.{get_or_append_left, get_or-append_right, get_or-take, get_or-drop, ext_get_or, length-take-le, drop-drop}
+use Rattle.std.proofs.lemmas.List.{append_assoc, take_at, drop_at, get_or_append_left, get_or-append_right, get_or-take, get_or-drop, ext_get_or, length-take-le, drop-drop}
 use borrow.Rule.Slice.PartMut.{put_mid}
 use Rattle.std.proofs.lemmas.Bool.{cases_lt}
 use Rattle.octets.specs.Sectors.{sector, patched, Touched}
@@ -89,3 +89,23 @@ unfolding patched
 overwritten xs ys zs p e =
     let f : p + (p + length ys - p) ≡ p + length ys = omega arith in
     rw (e, drop-drop) (ap (λ (k : ℕ). take p xs ++ (ys ++ drop k xs)) f)
+
+-- two parts replaced, the second right after the first
+pub patched_append : (b : List ℕ) (at : ℕ) (xs ys : List ℕ) → at + length xs ≤ length b → patched (patched b at xs) (at + length xs) ys ≡ patched b at (xs ++ ys)
+unfolding patched
+patched_append b at xs ys h =
+    let t = length-take-le at b (omega arith) in
+    let front : length (take at b ++ xs) ≡ at + length xs = length-append (take at b) xs ∙ ap (λ n. n + length xs) t in
+    let rest : List ℕ = drop (at + length xs) b in
+    let whole : take at b ++ (xs ++ rest) ≡ (take at b ++ xs) ++ rest = sym (append_assoc (take at b) xs rest) in
+    let taken : take (at + length xs) (take at b ++ (xs ++ rest)) ≡ take at b ++ xs =
+    ap (take (at + length xs)) whole ∙ take_at (take at b ++ xs) rest (at + length xs) front in
+    let left : drop (at + length xs + length ys) (take at b ++ (xs ++ rest)) ≡ drop (at + length (xs ++ ys)) b =
+    sym (drop-drop (length ys) (at + length xs) (take at b ++ (xs ++ rest)))
+    ∙ ap (drop (length ys)) (ap (drop (at + length xs)) whole ∙ drop_at (take at b ++ xs) rest (at + length xs) front)
+    ∙ drop-drop (length ys) (at + length xs) b
+    ∙ ap (λ n. drop n b) (omega (arith, length-append xs ys)) in
+    ap (λ (l : List ℕ). l ++ (ys ++ drop (at + length xs + length ys) (take at b ++ (xs ++ rest)))) taken
+    ∙ ap (λ (l : List ℕ). (take at b ++ xs) ++ (ys ++ l)) left
+    ∙ append_assoc (take at b) xs _
+    ∙ ap (λ (l : List ℕ). take at b ++ l) (sym (append_assoc xs ys _))

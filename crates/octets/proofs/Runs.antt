@@ -1,9 +1,10 @@
 -- Lists made of one part for each number from 0 on.
 -- Assumes nothing.
-use Rattle.std.proofs.Common.{◌≡◌, ℕ, zero, suc, ◌+◌, ◌*◌, ◌<◌, ◌≤◌, List, ◌++◌, length, sym, ap, ◌∙◌, subst, ⊎_elim, add-zero, mul-suc, add-one, arith, length-append}
+use Rattle.std.proofs.Common.{◌≡◌, ℕ, zero, suc, ◌+◌, ◌*◌, ◌<◌, ◌≤◌, List, ◌++◌, length, sym, ap, ◌∙◌, subst, ⊎_elim, add-zero, mul_comm, add-one, arith, length-append}
 use Rattle.std.specs.List.{range_with_len, flat_map}
 use Rattle.std.proofs.lemmas.List.{append_assoc, append-nil}
 use Rattle.std.proofs.lemmas.Bool.{cases_lt}
+use Rattle.octets.proofs.Rows.{length_chain}
 
 module _ (f : ℕ → List ℕ) where
   run_from : (a n : ℕ) → flat_map f (range_with_len a (suc n)) ≡ flat_map f (range_with_len a n) ++ f (a + n)
@@ -33,6 +34,4 @@ module _ (f : ℕ → List ℕ) where
 
   -- parts of one length
   pub run_length : (s : ℕ) → ((k : ℕ) → length (f k) ≡ s) → (n : ℕ) → length (flat_map f (range_with_len 0 n)) ≡ s * n
-  run_length s each zero = omega arith
-  run_length s each (suc n) =
-      ap length (run_suc n) ∙ length-append (flat_map f (range_with_len 0 n)) (f n) ∙ omega (arith, run_length s each n, each n, mul-suc s n)
+  run_length s each n = length_chain f s n (λ k _. each k) ∙ mul_comm n s

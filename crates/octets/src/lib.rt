@@ -2,4 +2,4 @@
 #![tactic(auto)]
 
 pub mod endian;
-pub mod numbers;
+pub mod word;

@@ -6,7 +6,7 @@ use Rattle.faults.specs.declared.fault.Fault.{Fault}
 use Rattle.faults.specs.Faults.{fault, refused, then}
 use Rattle.pages.specs.declared.layout.Layout.{Layout}
 use Rattle.pages.specs.Geometry.{segments_of, needed}
-use Rattle.pages.specs.Pages.{offsets_tag}
+use Rattle.pages.specs.Tags.{offsets_tag}
 use Rattle.pages.specs.Segments.{offset_of, byte_count_of, lacking, segment_at, segments_from, filled}
 
 -- a need too large to be counted is lacking whatever it is
@@ -23,12 +23,12 @@ lacking_most n offset count need h = by (cases_lt need (2 ^ 64))
 -- a segment's check, from what was read of it
 pub segment_by : (bs : List ℕ) (l : Layout) (k n offset count need : ℕ) (b : Bool) → n ≡ length bs → offset ≡ offset_of bs l k → count ≡ byte_count_of bs l k → count < 2 ^ 32
     → need ≡ min (needed l k) (2 ^ 64 - 1) → b ≡ lacking n offset count need
-    → segment_at bs l k ≡ refused b (fault Segment l.directory.page (offsets_tag l.cut.tiled) offset) (Ok tt)
+    → segment_at bs l k ≡ refused b (fault Segment l.directory.page (offsets_tag l.cut.kind) offset) (Ok tt)
 unfolding segment_at
 segment_by bs l k n offset count need b en eo ec few ed eb =
     let e : b ≡ lacking (length bs) (offset_of bs l k) (byte_count_of bs l k) (needed l k) =
     eb ∙ ap (lacking n offset count) ed ∙ lacking_most n offset count (needed l k) few ∙ (λ i. lacking (en i) (eo i) (ec i) (needed l k)) in
-    sym (λ i. refused (e i) (fault Segment l.directory.page (offsets_tag l.cut.tiled) (eo i)) (Ok tt))
+    sym (λ i. refused (e i) (fault Segment l.directory.page (offsets_tag l.cut.kind) (eo i)) (Ok tt))
 
 -- what the segments that are left give
 abbrev pub filled_from : List ℕ → Layout → ℕ → ℕ → Result Layout Fault

@@ -1,20 +1,19 @@
 // The opening of a page.
 ghost use Rattle.std.specs.Prelude.{◌≡◌};
-ghost use Rattle.store.specs.Rules.{NoGain};
+ghost use Rattle.store.specs.Looking.{Looked};
 ghost use Rattle.entries.specs.Entries.{Inside};
-ghost use Rattle.entries.specs.Looking.{Looked};
 ghost use Rattle.pages.specs.Geometry.{segments_of};
 ghost use Rattle.pages.specs.Segments.{lacking, segment_at, filled};
 ghost use Rattle.pages.specs.Opening.{page_of, opened};
 
 use crate::values::read_values;
-use checks::whole::{lay_out, offsets_tag};
+use checks::whole::lay_out;
 use entries::entry::Directory;
 use entries::reading::{read_number, scan};
 use faults::fault::{Check, Fault};
 use links::walk::walk;
 use pages::layout::*;
-use reads::numbers::read_short;
+use reads::numbers::read;
 use store::traits::Store;
 
 // Whether a segment does not hold what it needs, in a file of n bytes.
@@ -34,7 +33,7 @@ fn check_segment<S: Store>(store: &mut S, layout: Layout, k: u32) -> Result<(), 
     let offset = read_number(store, endian, layout.offsets, k);
     let count = read_number(store, endian, layout.counts, k);
     if is_lacking(n, offset, count, layout.needed(k)) {
-        let tag = offsets_tag(layout.cut.tiled);
+        let tag = layout.cut.kind.tags().offsets;
         return Err(Check::Segment.fault_at(layout.directory.page, tag, offset));
     }
     Ok(())
@@ -46,6 +45,7 @@ fn check_segments<S: Store>(store: &mut S, layout: Layout) -> Result<Layout, Fau
     ensures value { result ≡ filled (S.Store.seen store.old) layout }
     ensures looked { Looked S.Store.seen S.Store.may S.Store.trail store.old store.new }
 {
+    // Each check reads the store, so the segments are counted and not iterated.
     for k in 0..layout.offsets.count {
         check_segment(store, layout, k)?;
     }
@@ -71,22 +71,20 @@ fn check_page<S: Store>(
 // A page of a file, or the first fault.
 pub fn open_page<S: Store>(store: &mut S, page: u32) -> Result<Layout, Fault>
     ensures value { result ≡ opened (S.Store.seen store.old) page }
-    ensures same { S.Store.seen store.new ≡ S.Store.seen store.old }
-    ensures lists { NoGain (S.Store.may store.old) (S.Store.may store.new) }
-    ensures trails { NoGain (S.Store.trail store.old) (S.Store.trail store.new) }
+    ensures looked { Looked S.Store.seen S.Store.may S.Store.trail store.old store.new }
 {
     let directories = walk(store)?;
     let endian = directories.endian;
     let place = directories.place(page)?;
-    let entries = read_short(store, endian, place) as u32;
+    let entries: u16 = read(store, endian, place);
     check_page(
         store,
-        directories.count,
+        directories.count(),
         Directory {
             endian,
             page,
             place,
-            entries,
+            entries: entries as u32,
         },
     )
 }

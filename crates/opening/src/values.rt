@@ -1,6 +1,6 @@
 // The values of a page's tags, read from any store.
 ghost use Rattle.std.specs.Prelude.{◌≡◌};
-ghost use Rattle.entries.specs.Looking.{Looked};
+ghost use Rattle.store.specs.Looking.{Looked};
 ghost use Rattle.pages.specs.Pages.{format_of, sampling_of, sides_of, values_of};
 
 use entries::fields::Fields;
@@ -8,6 +8,8 @@ use entries::reading::{count_or, read_or};
 use octets::endian::Endian;
 use pages::layout::*;
 use store::traits::Store;
+
+// A store, a byte order and tags go through these four alone; a struct of them would borrow the store and say no more.
 
 fn read_format<S: Store>(store: &mut S, endian: Endian, fields: Fields) -> Format
     ensures value { result ≡ format_of endian (S.Store.seen store.old) fields }

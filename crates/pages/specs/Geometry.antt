@@ -5,6 +5,7 @@ use Rattle.raster.specs.declared.grid.Kind.{Kind}
 use Rattle.raster.specs.Picture.{number_of}
 use Rattle.pages.specs.declared.layout.Cut.{Cut}
 use Rattle.pages.specs.declared.layout.Layout.{Layout}
+use Rattle.pages.specs.Tags.{are_tiles}
 
 -- the samples of a pixel: three for RGB, else one
 abbrev pub samples_of : Kind → ℕ
@@ -26,7 +27,7 @@ first_row c width k = k / across c width * c.high
 
 -- the rows of segment k
 abbrev pub rows_of : Cut → ℕ → ℕ → ℕ → ℕ
-rows_of c width height k = cond c.tiled c.high (min c.high (height - first_row c width k))
+rows_of c width height k = cond (are_tiles c.kind) c.high (min c.high (height - first_row c width k))
 
 -- the bytes of a segment's row: each row begins with a new byte
 abbrev pub row_bytes : Cut → Kind → ℕ

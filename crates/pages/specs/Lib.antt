@@ -1,3 +1,4 @@
+pub mod Tags
 pub mod Geometry
 pub mod Pages
 pub mod Segments

@@ -1,5 +1,5 @@
 -- The checks of a whole page. Assumes nothing.
-use Rattle.std.specs.Prelude.{ℕ, ◌%◌, min, Bool, true, false, cond, not, ◌&&◌, ◌||◌, List, is_some, Some, None, Ok, Err, Option, Result, ◌==◌, nat_le, nat_lt}
+use Rattle.std.specs.Prelude.{ℕ, ◌%◌, min, Bool, cond, not, ◌&&◌, ◌||◌, List, is_some, Some, None, Ok, Err, Option, Result, ◌==◌, nat_le, nat_lt}
 use Rattle.faults.specs.declared.fault.Check.{Check}
 use Rattle.faults.specs.declared.fault.Check.TheVariants.{Missing, Kind as KindCheck, Size, Tally}
 use Rattle.faults.specs.declared.fault.Fault.{Fault}
@@ -19,8 +19,11 @@ use Rattle.pages.specs.declared.layout.Format.{Format}
 use Rattle.pages.specs.declared.layout.Layout.{Layout}
 use Rattle.pages.specs.declared.layout.Listing.{Listing}
 use Rattle.pages.specs.declared.layout.Sampling.{Sampling}
+use Rattle.pages.specs.declared.layout.SegmentKind.{SegmentKind}
+use Rattle.pages.specs.declared.layout.SegmentKind.TheVariants.{Strip, Tile}
 use Rattle.pages.specs.declared.layout.Sides.{Sides}
 use Rattle.pages.specs.declared.layout.Values.{Values}
+use Rattle.pages.specs.Tags.{are_tiles, offsets_tag, counts_tag}
 use Rattle.pages.specs.Geometry.{segments_of}
 
 -- a fault of a page names its directory's place
@@ -32,32 +35,26 @@ abbrev pub tiled : Fields → Bool
 tiled fs =
     is_some fs.across || (is_some fs.down || (is_some fs.tiles.offsets || is_some fs.tiles.counts))
 
+abbrev pub segment_kind : Fields → SegmentKind
+segment_kind fs = cond (tiled fs) Tile Strip
+
 -- a tag that a page must have
 abbrev pub found : Directory → ℕ → Option Numbers → Result Numbers Fault
 found d tag None = Err (fault_in Missing d tag)
 found d tag (Some v) = Ok v
 
--- the tags of the offsets and byte counts of segments
-abbrev pub offsets_tag : Bool → ℕ
-offsets_tag true = 324
-offsets_tag false = 273
-
-abbrev pub counts_tag : Bool → ℕ
-counts_tag true = 325
-counts_tag false = 279
-
 -- the offsets and byte counts of strips or of tiles
-unfoldable pub listing : Directory → Bool → Table → Result Listing Fault
-listing d t table =
-    then (found d (offsets_tag t) table.offsets) (λ offsets.
-    then (found d (counts_tag t) table.counts) (λ counts.
+unfoldable pub listing : Directory → SegmentKind → Table → Result Listing Fault
+listing d kind table =
+    then (found d (offsets_tag kind) table.offsets) (λ offsets.
+    then (found d (counts_tag kind) table.counts) (λ counts.
     Ok record { offsets = offsets; counts = counts }))
 
 unfoldable pub tile_listing : Directory → Fields → Result Listing Fault
 tile_listing d fs =
     then (found d 322 fs.across) (λ _.
     then (found d 323 fs.down) (λ _.
-    listing d true fs.tiles))
+    listing d Tile fs.tiles))
 
 -- the offsets and byte counts of a page that lacks no tag
 unfoldable pub complete : Directory → Fields → Result Listing Fault
@@ -65,7 +62,7 @@ complete d fs =
     then (found d 256 fs.width) (λ _.
     then (found d 257 fs.height) (λ _.
     then (found d 262 fs.photometric) (λ _.
-    cond (tiled fs) (tile_listing d fs) (listing d false fs.strips))))
+    cond (tiled fs) (tile_listing d fs) (listing d Strip fs.strips))))
 
 -- the values of a page's tags: all but the sides and 262 have defaults
 unfoldable pub format_of : Endian → List ℕ → Fields → Format
@@ -144,26 +141,26 @@ unfoldable pub tile_cut : Directory → Sides → Result Cut Fault
 tile_cut d s =
     refused (not (tile_side s.across)) (fault_in Size d 322)
     (refused (not (tile_side s.down)) (fault_in Size d 323)
-    (Ok record { tiled = true; wide = s.across; high = s.down }))
+    (Ok record { kind = Tile; wide = s.across; high = s.down }))
 
 unfoldable pub strip_cut : Directory → Sides → Result Cut Fault
 strip_cut d s =
     refused (s.rows == 0) (fault_in Size d 278)
-    (Ok record { tiled = false; wide = s.width; high = min s.rows s.height })
+    (Ok record { kind = Strip; wide = s.width; high = min s.rows s.height })
 
 -- how a page is cut whose sides are within limits
-unfoldable pub cut_of : Directory → Bool → Sides → Result Cut Fault
-cut_of d t s =
+unfoldable pub cut_of : Directory → SegmentKind → Sides → Result Cut Fault
+cut_of d kind s =
     refused (not (page_side s.width)) (fault_in Size d 256)
     (refused (not (page_side s.height)) (fault_in Size d 257)
-    (cond t (tile_cut d s) (strip_cut d s)))
+    (cond (are_tiles kind) (tile_cut d s) (strip_cut d s)))
 
 -- a page has one offset and one byte count a segment, and at most 1,024 segments
 unfoldable pub tallied : Layout → Result Layout Fault
 tallied l =
-    refused (not (l.offsets.count == segments_of l)) (fault_in Tally l.directory (offsets_tag l.cut.tiled))
-    (refused (not (l.counts.count == segments_of l)) (fault_in Tally l.directory (counts_tag l.cut.tiled))
-    (refused (nat_lt 1024 (segments_of l)) (fault_in Tally l.directory (offsets_tag l.cut.tiled))
+    refused (not (l.offsets.count == segments_of l)) (fault_in Tally l.directory (offsets_tag l.cut.kind))
+    (refused (not (l.counts.count == segments_of l)) (fault_in Tally l.directory (counts_tag l.cut.kind))
+    (refused (nat_lt 1024 (segments_of l)) (fault_in Tally l.directory (offsets_tag l.cut.kind))
     (Ok l)))
 
 -- the layout that a page's tags and values give
@@ -186,5 +183,5 @@ laid_out d directories fs v =
     then (complete d fs) (λ t.
     then (formatted d v.format) (λ orientation.
     then (sampled d v.sampling) (λ kind.
-    then (cut_of d (tiled fs) v.sides) (λ cut.
+    then (cut_of d (segment_kind fs) v.sides) (λ cut.
     tallied (layout_of d directories v.sides t orientation kind cut)))))

@@ -6,7 +6,7 @@ use Rattle.faults.specs.Faults.{fault, refused, then}
 use Rattle.entries.specs.Fields.{number_at}
 use Rattle.pages.specs.declared.layout.Layout.{Layout}
 use Rattle.pages.specs.Geometry.{segments_of, needed}
-use Rattle.pages.specs.Pages.{offsets_tag}
+use Rattle.pages.specs.Tags.{offsets_tag}
 
 -- the offset and the byte count of segment k
 abbrev pub offset_of : List ℕ → Layout → ℕ → ℕ
@@ -23,7 +23,7 @@ lacking n offset count need = nat_lt offset 8 || (nat_lt count need || nat_lt n 
 unfoldable pub segment_at : List ℕ → Layout → ℕ → Result (Unit {0}) Fault
 segment_at bs l k =
     refused (lacking (length bs) (offset_of bs l k) (byte_count_of bs l k) (needed l k))
-    (fault Segment l.directory.page (offsets_tag l.cut.tiled) (offset_of bs l k))
+    (fault Segment l.directory.page (offsets_tag l.cut.kind) (offset_of bs l k))
     (Ok tt)
 
 -- so many segments from k on, in order

@@ -1,6 +1,7 @@
 // How a page is cut into strips or tiles.
-ghost use Rattle.std.specs.Prelude.{◌≡◌, ◌+◌, ◌-◌, ◌*◌, ◌/◌, ◌^◌, ◌<◌, min};
+ghost use Rattle.std.specs.Prelude.{◌≡◌, ◌+◌, ◌-◌, ◌*◌, ◌^◌, ◌<◌, min};
 ghost use Rattle.octets.specs.Rows.{ceil};
+ghost use Rattle.pages.specs.Pages.{page_side, tile_side};
 ghost use Rattle.pages.specs.Geometry.{samples_of, across, segments, segments_of, first_row, rows_of, row_bytes, needed};
 
 use crate::layout::*;
@@ -11,25 +12,35 @@ pub fn samples_of(kind: Kind) -> u8
     ensures { result ≡ samples_of kind }
 {
     match kind.photometric {
-        Photometric::WhiteIsZero => 1,
-        Photometric::BlackIsZero => 1,
+        Photometric::WhiteIsZero | Photometric::BlackIsZero => 1,
         Photometric::Rgb => 3,
     }
 }
 
-// A quotient, and 0 where the divisor is 0.
-fn quotient(a: u64, b: u64) -> u64
-    ensures { result ≡ a / b }
+// Whether a page may have such a side.
+pub fn is_page_side(side: u32) -> bool
+    ensures { result ≡ page_side side }
 {
-    if b == 0 { 0 } else { a / b }
+    (1..=16384).contains(&side)
 }
 
-// How many parts of a size cover a length.
+// Whether a tile may have such a side.
+pub fn is_tile_side(side: u32) -> bool
+    ensures { result ≡ tile_side side }
+{
+    (16..=16384).contains(&side) && side % 16 == 0
+}
+
+// How many parts of a size cover a length: none of size 0.
 fn parts(length: u32, size: u32) -> u64
     ensures value { result ≡ ceil length size }
     ensures few { result < 2 ^ 32 }
 {
-    quotient(length as u64 + (size as u64).saturating_sub(1), size as u64)
+    if size == 0 {
+        0
+    } else {
+        length.div_ceil(size) as u64
+    }
 }
 
 impl Cut {
@@ -42,6 +53,7 @@ impl Cut {
     }
 
     // How many segments there are.
+    #[tactic(auto, unfolding(crate::specs::Geometry::segments))]
     pub fn segments(self, width: u32, height: u32) -> u64
         ensures { result ≡ segments self width height }
     {
@@ -52,17 +64,20 @@ impl Cut {
     pub fn first_row(self, width: u32, k: u32) -> u64
         ensures { result ≡ first_row self width k }
     {
-        quotient(k as u64, self.across(width)) * self.high as u64
+        let row = (k as u64).checked_div(self.across(width)).unwrap_or(0);
+        row * self.high as u64
     }
 
     // The rows of segment k.
     pub fn rows(self, width: u32, height: u32, k: u32) -> u64
         ensures { result ≡ rows_of self width height k }
     {
-        if self.tiled {
-            self.high as u64
-        } else {
-            (self.high as u64).min((height as u64).saturating_sub(self.first_row(width, k)))
+        let high = self.high as u64;
+        match self.kind {
+            SegmentKind::Strip => {
+                high.min((height as u64).saturating_sub(self.first_row(width, k)))
+            }
+            SegmentKind::Tile => high,
         }
     }
 
@@ -70,7 +85,7 @@ impl Cut {
     pub fn row_bytes(self, kind: Kind) -> u64
         ensures { result ≡ row_bytes self kind }
     {
-        (self.wide as u64 * samples_of(kind) as u64 * kind.bits as u64 + 7) / 8
+        (self.wide as u64 * samples_of(kind) as u64 * kind.bits as u64).div_ceil(8)
     }
 }
 
@@ -83,6 +98,7 @@ impl Layout {
     }
 
     // The bytes that segment k needs, or the largest number if they are more.
+    #[tactic(auto, unfolding(crate::specs::Geometry::needed))]
     pub fn needed(self, k: u32) -> u64
         ensures { result ≡ min (needed self k) (2 ^ 64 - 1) }
     {

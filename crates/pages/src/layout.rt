@@ -1,9 +1,12 @@
 // What is read of a page, and what an accepted page is known by.
+ghost use Rattle.std.specs.Prelude.{◌≡◌};
+ghost use Rattle.pages.specs.Tags.{offsets_tag, counts_tag};
+
 use entries::entry::Directory;
 use entries::fields::Numbers;
 use raster::grid::Kind;
 
-// The values that say how a page's bytes are to be read.
+// The values that say how a page's bytes are to be read: numbers as they stand in the file, of which a check allows a few.
 #[derive(Clone, Copy)]
 pub struct Format {
     pub compression: u32,
@@ -12,7 +15,7 @@ pub struct Format {
     pub orientation: u32,
 }
 
-// The values that say what a page's pixels are; `given` is for how many samples bits are given.
+// The values that say what a page's pixels are, as they stand in the file; `given` is for how many samples bits are given.
 #[derive(Clone, Copy)]
 pub struct Sampling {
     pub photometric: u32,
@@ -48,11 +51,42 @@ pub struct Listing {
     pub counts: Numbers,
 }
 
+// What the segments of a page are. A strip is as wide as the page, and the last has only the rows left; a tile is always whole.
+#[derive(Clone, Copy, PartialEq, Eq, Debug)]
+pub enum SegmentKind {
+    Strip,
+    Tile,
+}
+
+// The tags of the segments' offsets and byte counts.
+#[derive(Clone, Copy)]
+pub struct ListingTags {
+    pub offsets: u16,
+    pub counts: u16,
+}
+
+impl SegmentKind {
+    pub fn tags(self) -> ListingTags
+        ensures offsets { result.offsets ≡ offsets_tag self }
+        ensures counts { result.counts ≡ counts_tag self }
+    {
+        match self {
+            SegmentKind::Strip => ListingTags {
+                offsets: 273,
+                counts: 279,
+            },
+            SegmentKind::Tile => ListingTags {
+                offsets: 324,
+                counts: 325,
+            },
+        }
+    }
+}
+
 // How a page is cut: segments of `wide` pixels by `high` rows, left to right, then down.
-// A strip is as wide as the page, and the last has only the rows left; a tile is always whole.
 #[derive(Clone, Copy)]
 pub struct Cut {
-    pub tiled: bool,
+    pub kind: SegmentKind,
     pub wide: u32,
     pub high: u32,
 }
@@ -63,6 +97,7 @@ pub struct Cut {
 pub struct Layout {
     pub directory: Directory,
     pub directories: u32,
+    // No Size and no Listing: most callers read one of these fields alone.
     pub width: u32,
     pub height: u32,
     pub kind: Kind,

@@ -1,9 +1,8 @@
 -- The values of an entry, by the twelve bytes of the entry.
-use Rattle.std.proofs.Common.{◌≡◌, ℕ, zero, suc, ◌+◌, ◌-◌, ◌*◌, ◌/◌, ◌<◌, ◌≤◌, min, Bool, true, false, cond, ◌&&◌, ltb, leb, ◌⊎◌, List, [], ◌∷◌, ◌++◌, length, get_or, take, drop, sym, refl, ap, ◌∙◌, inl, inr, ⊎_elim, add_assoc, arith}
+use Rattle.std.proofs.Common.{◌≡◌, ℕ, ◌+◌, ◌-◌, ◌*◌, ◌/◌, ◌<◌, ◌≤◌, min, Bool, true, false, cond, ◌&&◌, ltb, leb, ◌⊎◌, List, ◌++◌, length, get_or, take, drop, sym, refl, ap, ◌∙◌, inl, inr, ⊎_elim, add_assoc, arith}
 use Rattle.std.proofs.lemmas.List.{get_or-take, get_or-drop, get_or_past, get_or-replicate, get_or_append_left, get_or-append_right, length-take-le, length-drop, length-replicate}
 use Rattle.std.proofs.lemmas.Bool.{cond-false, and_left, and_right, le-ltb, lt-leb, cases_lt}
-use Rattle.octets.specs.Digits.{number}
-use Rattle.octets.specs.Numbers.{short, long}
+use Rattle.octets.specs.Numbers.{word, long}
 use Rattle.octets.specs.Rows.{byte}
 use Rattle.octets.specs.declared.endian.Endian.{Endian}
 use Rattle.octets.proofs.Digits.{number_same}
@@ -13,7 +12,7 @@ use Rattle.entries.specs.declared.entry.Entry.{Entry}
 use Rattle.entries.specs.Entries.{entry_at, size, home_of}
 use Rattle.pages.specs.Extents.{span, outer}
 use Rattle.places.specs.Places.{behind, shares}
-use Rattle.places.specs.Search.{passed, passed_value, outer_span}
+use Rattle.places.specs.Search.{passed, outer_span, entry_span}
 
 -- a span of no bytes moves no place
 passed_none : (len place at : ℕ) → passed len place (span at 0) ≡ place
@@ -26,10 +25,13 @@ passed_part : (b : Bool) (len place at size : ℕ) → cond b (passed len place 
 passed_part true len place at size = refl
 passed_part false len place at size = sym (passed_none len place at)
 
+-- the place once an entry among n bytes is looked at
+abbrev pub passed_value : ℕ → ℕ → ℕ → Entry → ℕ
+passed_value n len place e = cond (outer n e) (passed len place (span e.values (size e))) place
+
 -- an entry whose values begin as the numbers in it say
 pub value_passed : (n len place : ℕ) (e : Entry) (last : ℕ) → e.values ≡ home_of e.place (size e) last
     → passed len place (outer_span n e.kind e.count last) ≡ passed_value n len place e
-unfolding passed_value
 value_passed n len place e last v = by (cases_lt 4 (size e))
   where
     by : (4 < size e) ⊎ (size e ≤ 4) → passed len place (outer_span n e.kind e.count last) ≡ cond (outer n e) (passed len place (span e.values (size e))) place
@@ -44,34 +46,15 @@ value_passed n len place e last v = by (cases_lt 4 (size e))
         ∙ sym (cond-false (outer n e) (passed len place (span e.values (size e))) place (and_left (ltb 4 (size e)) (leb (e.values + size e) n) f))
 
 -- the entry at a place, by the numbers in it
-pub entry_passed : (o : Endian) (bs : List ℕ) (at n len place kind count last : ℕ)
-    → kind ≡ short o bs (at + 2) → count ≡ long o bs (at + 4) → last ≡ long o bs (at + 8)
-    → passed len place (outer_span n kind count last) ≡ passed_value n len place (entry_at o bs at)
+pub entry_passed : (o : Endian) (bs : List ℕ) (at len place : ℕ) → passed len place (entry_span o bs at) ≡ passed_value (length bs) len place (entry_at o bs at)
 unfolding entry_at
-entry_passed o bs at n len place kind count last k c l =
-    (λ i. passed len place (outer_span n (k i) (c i) (l i))) ∙ value_passed n len place (entry_at o bs at) (long o bs (at + 8)) refl
+entry_passed o bs at len place = value_passed (length bs) len place (entry_at o bs at) (long o bs (at + 8)) refl
 
-module _ (o : Endian) (bs b : List ℕ) (at : ℕ) (each : (i : ℕ) → i < 12 → get_or b i 0 ≡ byte bs (at + i)) where
-  from_byte : (j i : ℕ) → j + i < 12 → get_or b (j + i) 0 ≡ byte bs (at + j + i)
-  from_byte j i h = each (j + i) h ∙ ap (byte bs) (sym (add_assoc at j i))
-
-  pub short_twelve : (j : ℕ) → j + 1 < 12 → number o 2 (byte (get_or b j 0 ∷ get_or b (j + 1) 0 ∷ [])) ≡ short o bs (at + j)
-  short_twelve j h = number_same o 2 _ (λ i. byte bs (at + j + i)) parts
-    where
-      parts : (t : ℕ) → t < 2 → byte (get_or b j 0 ∷ get_or b (j + 1) 0 ∷ []) t ≡ byte bs (at + j + t)
-      parts zero l = ap (λ i. get_or b i 0) (let z : j ≡ j + 0 = omega arith in z) ∙ from_byte j 0 (omega arith)
-      parts (suc zero) l = from_byte j 1 h
-      parts (suc (suc t)) l = absurd (omega arith)
-
-  pub long_twelve : (j : ℕ) → j + 3 < 12 → number o 4 (byte (get_or b j 0 ∷ get_or b (j + 1) 0 ∷ get_or b (j + 2) 0 ∷ get_or b (j + 3) 0 ∷ [])) ≡ long o bs (at + j)
-  long_twelve j h = number_same o 4 _ (λ i. byte bs (at + j + i)) parts
-    where
-      parts : (t : ℕ) → t < 4 → byte (get_or b j 0 ∷ get_or b (j + 1) 0 ∷ get_or b (j + 2) 0 ∷ get_or b (j + 3) 0 ∷ []) t ≡ byte bs (at + j + t)
-      parts zero l = ap (λ i. get_or b i 0) (let z : j ≡ j + 0 = omega arith in z) ∙ from_byte j 0 (omega arith)
-      parts (suc zero) l = from_byte j 1 (omega arith)
-      parts (suc (suc zero)) l = from_byte j 2 (omega arith)
-      parts (suc (suc (suc zero))) l = from_byte j 3 h
-      parts (suc (suc (suc (suc t)))) l = absurd (omega arith)
+-- the number in some of twelve bytes, each of which is the one at its place
+pub word_twelve : (o : Endian) (bs b : List ℕ) (at : ℕ) → ((i : ℕ) → i < 12 → get_or b i 0 ≡ byte bs (at + i))
+    → (j n : ℕ) → j + n ≤ 12 → word o b j n ≡ word o bs (at + j) n
+word_twelve o bs b at each j n h =
+    number_same o n (λ i. byte b (j + i)) (λ i. byte bs (at + j + i)) (λ t l. each (j + t) (omega arith) ∙ ap (byte bs) (sym (add_assoc at j t)))
 
 -- zeros are 0 wherever they are read
 pub zeros_byte : (n i : ℕ) → get_or (zeros n) i 0 ≡ 0

@@ -4,6 +4,7 @@ use Rattle.std.proofs.lemmas.Bool.{cond_both}
 use Rattle.octets.specs.Rows.{ceil}
 use Rattle.raster.specs.Picture.{number_of}
 use Rattle.pages.specs.declared.layout.Layout.{Layout}
+use Rattle.pages.specs.Tags.{are_tiles}
 use Rattle.pages.specs.Geometry.{samples_of, across, segments, segments_of, first_row, rows_of, needed}
 use Rattle.stored.specs.Sane.{Sane}
 
@@ -29,7 +30,7 @@ row_few wide samples bits a b c =
 rows_few : (l : Layout) (k : ℕ) → Sane l → rows_of l.cut l.width l.height k ≤ 16384
 rows_few l k s =
     let m = s.high.most in
-    cond_both l.cut.tiled l.cut.high (min l.cut.high (l.height - first_row l.cut l.width k)) (λ n. n ≤ 16384) (λ _. m) (λ _. omega arith)
+    cond_both (are_tiles l.cut.kind) l.cut.high (min l.cut.high (l.height - first_row l.cut l.width k)) (λ n. n ≤ 16384) (λ _. m) (λ _. omega arith)
 
 pub needed_few : (l : Layout) (k : ℕ) → Sane l → needed l k ≤ 16384 * 49152
 unfolding needed

@@ -1,10 +1,10 @@
 -- How the search goes: the place moves behind each extent with which the block would share a sector. Assumes nothing.
-use Rattle.std.specs.Prelude.{ℕ, ◌+◌, ◌*◌, cond, ◌&&◌, List, [], ◌∷◌, map, nat_le, nat_lt}
+use Rattle.std.specs.Prelude.{ℕ, ◌+◌, ◌*◌, cond, ◌&&◌, List, [], ◌∷◌, map, length, nat_le, nat_lt}
 use Rattle.std.specs.List.{range_with_len}
-use Rattle.entries.specs.declared.entry.Entry.{Entry}
-use Rattle.entries.specs.Entries.{size, size_of}
-use Rattle.pages.specs.declared.layout.Layout.{Layout}
-use Rattle.pages.specs.Extents.{Span, span, segment_span, outer}
+use Rattle.octets.specs.Numbers.{short, long}
+use Rattle.octets.specs.declared.endian.Endian.{Endian}
+use Rattle.entries.specs.Entries.{size_of}
+use Rattle.pages.specs.Extents.{Span, span}
 use Rattle.places.specs.declared.extent.Extent.{Extent}
 use Rattle.places.specs.Places.{behind, shares}
 
@@ -25,10 +25,10 @@ passed_all len place (s ∷ ss) = passed_all len (passed len place s) ss
 abbrev pub outer_span : ℕ → ℕ → ℕ → ℕ → Span
 outer_span n kind count place = span place (cond (nat_lt 4 (size_of kind count) && nat_le (place + size_of kind count) n) (size_of kind count) 0)
 
--- the place once an entry among n bytes is looked at
-unfoldable pub passed_value : ℕ → ℕ → ℕ → Entry → ℕ
-passed_value n len place e = cond (outer n e) (passed len place (span e.values (size e))) place
+-- the values of the entry at a place, by the numbers in it
+abbrev pub entry_span : Endian → List ℕ → ℕ → Span
+entry_span o bs at = outer_span (length bs) (short o bs (at + 2)) (long o bs (at + 4)) (long o bs (at + 8))
 
--- once so many segments are looked at, from segment k on
-unfoldable pub passed_segments : List ℕ → Layout → ℕ → ℕ → ℕ → ℕ → ℕ
-passed_segments bs l len place k count = passed_all len place (map (segment_span bs l) (range_with_len k count))
+-- once each of so many spans is looked at, from span k on
+unfoldable pub passed_each : (ℕ → Span) → ℕ → ℕ → ℕ → ℕ → ℕ
+passed_each f len place k count = passed_all len place (map f (range_with_len k count))

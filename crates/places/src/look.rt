@@ -1,22 +1,61 @@
-// The extents of a page, read from any store, and the place of a block once they are looked at.
-ghost use Rattle.std.specs.Prelude.{◌≡◌, ℕ, ◌+◌, ◌*◌, ◌^◌, ◌<◌, ◌≤◌, length, slice_index};
+// The extents of a page, read from any store, and where a block stands once they are looked at.
+ghost use Rattle.std.specs.Prelude.{◌≡◌, ℕ, ◌+◌, ◌*◌, ◌^◌, ◌<◌, List, length, slice_index};
 ghost use Rattle.octets.specs.Rows.{byte};
-ghost use Rattle.entries.specs.Entries.{entry_at, entries_of};
-ghost use Rattle.entries.specs.Looking.{Looked};
-ghost use Rattle.pages.specs.Extents.{segment_span, value_spans, extents};
+ghost use Rattle.store.specs.Looking.{Looked};
+ghost use Rattle.pages.specs.Extents.{Span, segment_span, extents};
 ghost use Rattle.pages.specs.Geometry.{segments_of};
-ghost use Rattle.stored.specs.Sane.{Sane};
-ghost use Rattle.places.specs.Search.{span_of, outer_span, passed_all, passed_value, passed_segments};
+ghost use Rattle.places.specs.Search.{span_of, outer_span, entry_span, passed_all, passed_each};
 
 use crate::extent::*;
-use entries::entry::{Directory, size_of};
+use entries::entry::{Directory, RawEntry, size_of};
 use entries::reading::read_number;
-use octets::endian::Endian;
-use pages::layout::Layout;
 use reads::numbers::fill;
 use store::traits::Store;
+use stored::page::Page;
+
+// Extents by number, read from any store.
+trait Extents {
+    ghost many: { Self → ℕ };
+
+    ghost span_at: { Self → List ℕ → ℕ → Span };
+
+    // How many there are.
+    fn count(&self) -> u32
+        ensures { result ≡ many self.now };
+
+    // Extent k; at most one read of the store.
+    fn read<S: Store>(&self, store: &mut S, k: u32) -> Extent
+        ensures value { span_of result ≡ span_at self.now (S.Store.seen store.old) k }
+        ensures looked { Looked S.Store.seen S.Store.may S.Store.trail store.old store.new };
+}
+
+// The needed bytes of the segments of a page.
+#[derive(Clone, Copy)]
+struct Segments {
+    page: Page,
+}
+
+impl Extents for Segments {
+    ghost many = { λ s. segments_of s.page.layout };
+
+    ghost span_at = { λ s bs k. segment_span bs s.page.layout k };
+
+    fn count(&self) -> u32 {
+        self.page.layout().segments() as u32
+    }
+
+    fn read<S: Store>(&self, store: &mut S, k: u32) -> Extent {
+        let layout = self.page.layout();
+        let offset = read_number(store, layout.directory.endian, layout.offsets, k);
+        Extent {
+            place: offset as u64,
+            count: layout.needed(k),
+        }
+    }
+}
 
 // The twelve bytes from a place on, with 0 for each past the end; at most one read of the store.
+// Not by read_array, which gives only zeros where any byte is past the end.
 fn read_twelve<S: Store>(store: &mut S, place: u64) -> [u8; 12]
     ensures bytes { (i : ℕ) → i < 12 → slice_index result i ≡ byte (S.Store.seen store.old) (place + i) }
     ensures looked { Looked S.Store.seen S.Store.may S.Store.trail store.old store.new }
@@ -32,8 +71,7 @@ fn read_twelve<S: Store>(store: &mut S, place: u64) -> [u8; 12]
 
 // So many values of a type, from a place on: no byte if they stand in their entry or do not lie within n bytes.
 fn outer_extent(kind: u16, count: u32, place: u32, n: u32) -> Extent
-    ensures value { span_of result ≡ outer_span n kind count place }
-    ensures near { result.place + result.count < 2 ^ 38 }
+    ensures { span_of result ≡ outer_span n kind count place }
 {
     let size = size_of(kind, count);
     let place = place as u64;
@@ -44,86 +82,54 @@ fn outer_extent(kind: u16, count: u32, place: u32, n: u32) -> Extent
     }
 }
 
-// The place of a block once the values of the entry at `entry` are looked at; at most one read of the store.
-fn pass_entry<S: Store>(store: &mut S, endian: Endian, entry: u64, place: u64, len: u64) -> u64
-    requires near { place < 2 ^ 39 }
-    requires short { len < 2 ^ 32 }
-    ensures value { result ≡ passed_value (length (S.Store.seen store.old)) len place (entry_at endian (S.Store.seen store.old) entry) }
-    ensures near { result < 2 ^ 39 }
-    ensures looked { Looked S.Store.seen S.Store.may S.Store.trail store.old store.new }
-{
-    let n = store.length();
-    let b = read_twelve(store, entry);
-    let kind = endian.short([b[2], b[3]]);
-    let count = endian.long([b[4], b[5], b[6], b[7]]);
-    let last = endian.long([b[8], b[9], b[10], b[11]]);
-    outer_extent(kind, count, last, n).pass(place, len)
+// The values of the entries of a directory, listed or not.
+#[derive(Clone, Copy)]
+struct Values {
+    directory: Directory,
 }
 
-// The place of a block once the values of all entries are looked at, listed or not.
-fn pass_entries<S: Store>(store: &mut S, directory: Directory, place: u64, len: u64) -> u64
-    requires near { place < 2 ^ 39 }
-    requires short { len < 2 ^ 32 }
-    ensures value { result ≡ passed_all len place (value_spans (length (S.Store.seen store.old)) (entries_of (S.Store.seen store.old) directory)) }
-    ensures near { result < 2 ^ 39 }
+impl Extents for Values {
+    ghost many = { λ v. v.directory.entries };
+
+    ghost span_at = { λ v bs k. entry_span v.directory.endian bs (v.directory.place + 2 + 12 * k) };
+
+    fn count(&self) -> u32 {
+        self.directory.entries
+    }
+
+    fn read<S: Store>(&self, store: &mut S, k: u32) -> Extent {
+        let n = store.length();
+        let place = self.directory.place as u64 + 2 + 12 * k as u64;
+        let bytes = read_twelve(store, place);
+        let raw = RawEntry::decode(self.directory.endian, bytes);
+        outer_extent(raw.kind, raw.count, raw.last, n)
+    }
+}
+
+// A block once each of some extents is looked at, in order.
+// A `for` and no chain of iterators, since each look changes the store.
+fn pass_each<S: Store, E: Extents>(store: &mut S, list: &E, block: Block) -> Block
+    ensures place { result.place ≡ passed_each (E.span_at list.now (S.Store.seen store.old)) block.len block.place 0 (E.many list.now) }
+    ensures len { result.len ≡ block.len }
+    ensures near { block.place < 2 ^ 39 → result.place < 2 ^ 39 }
     ensures looked { Looked S.Store.seen S.Store.may S.Store.trail store.old store.new }
 {
-    let mut next = place;
-    for i in 0..directory.entries {
-        let entry = directory.place as u64 + 2 + 12 * i as u64;
-        next = pass_entry(store, directory.endian, entry, next, len);
+    let mut next = block;
+    for k in 0..list.count() {
+        next = next.pass(list.read(store, k));
     }
     next
 }
 
-// How many segments a page has.
-fn segment_count(layout: Layout) -> u32
-    requires { segments_of layout < 2 ^ 32 }
-    ensures { result ≡ segments_of layout }
-{
-    layout.segments() as u32
-}
-
-// The needed bytes of segment k; one read of the store, of its offset.
-fn read_segment<S: Store>(store: &mut S, layout: Layout, k: u32) -> Extent
-    requires { Sane layout }
-    ensures value { span_of result ≡ segment_span (S.Store.seen store.old) layout k }
-    ensures near { result.place + result.count < 2 ^ 38 }
+// A block once all extents of a page are looked at, each once.
+pub fn pass_extents<S: Store>(store: &mut S, page: Page, block: Block) -> Block
+    ensures place { result.place ≡ passed_all block.len block.place (extents (S.Store.seen store.old) page.layout) }
+    ensures len { result.len ≡ block.len }
+    ensures near { block.place < 2 ^ 39 → result.place < 2 ^ 39 }
     ensures looked { Looked S.Store.seen S.Store.may S.Store.trail store.old store.new }
 {
-    let offset = read_number(store, layout.directory.endian, layout.offsets, k);
-    Extent {
-        place: offset as u64,
-        count: layout.needed(k),
-    }
-}
-
-// The place of a block once all segments are looked at.
-fn pass_segments<S: Store>(store: &mut S, layout: Layout, place: u64, len: u64) -> u64
-    requires sane { Sane layout }
-    requires near { place < 2 ^ 39 }
-    requires short { len < 2 ^ 32 }
-    ensures value { result ≡ passed_segments (S.Store.seen store.old) layout len place 0 (segments_of layout) }
-    ensures near { result < 2 ^ 39 }
-    ensures looked { Looked S.Store.seen S.Store.may S.Store.trail store.old store.new }
-{
-    let mut next = place;
-    for k in 0..segment_count(layout) {
-        next = read_segment(store, layout, k).pass(next, len);
-    }
-    next
-}
-
-// The place of a block once all extents of a page are looked at, each once.
-pub fn pass_extents<S: Store>(store: &mut S, layout: Layout, place: u64, len: u64) -> u64
-    requires sane { Sane layout }
-    requires near { place < 2 ^ 39 }
-    requires short { len < 2 ^ 32 }
-    ensures value { result ≡ passed_all len place (extents (S.Store.seen store.old) layout) }
-    ensures near { result < 2 ^ 39 }
-    ensures looked { Looked S.Store.seen S.Store.may S.Store.trail store.old store.new }
-{
-    let behind = directory_extent(layout.directory).pass(place, len);
-    let beyond = pass_segments(store, layout, behind, len);
-    pass_entries(store, layout.directory, beyond, len)
+    let directory = page.layout().directory;
+    let first = block.pass(Extent::of_directory(directory));
+    let second = pass_each(store, &Segments { page }, first);
+    pass_each(store, &Values { directory }, second)
 }

@@ -1,6 +1,6 @@
 // The search for the place of a draft.
 ghost use Rattle.std.specs.Prelude.{◌≡◌};
-ghost use Rattle.store.specs.Rules.{NoGain};
+ghost use Rattle.store.specs.Looking.{Looked};
 ghost use Rattle.places.specs.Places.{place_of};
 ghost use Rattle.places.specs.Lowest.{Placed};
 
@@ -21,15 +21,12 @@ fn first_place() -> u64
 pub fn find_place<S: Store>(store: &mut S, page: Page, len: u64) -> Option<u32>
     ensures value { result ≡ place_of (S.Store.seen store.old) page.layout len }
     ensures lowest { Placed (S.Store.seen store.old) page.layout len result }
-    ensures same { S.Store.seen store.new ≡ S.Store.seen store.old }
-    ensures lists { NoGain (S.Store.may store.old) (S.Store.may store.new) }
-    ensures trails { NoGain (S.Store.trail store.old) (S.Store.trail store.new) }
+    ensures looked { Looked S.Store.seen S.Store.may S.Store.trail store.old store.new }
 {
     let n = store.length();
-    let layout = page.layout();
     let mut place = first_place();
-    while ends_by(place, len, n) {
-        let next = pass_extents(store, layout, place, len);
+    while let Some(block) = Block::within(place, len, n) {
+        let next = pass_extents(store, page, block).place;
         if next == place {
             return Some(place as u32);
         }

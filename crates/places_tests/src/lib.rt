@@ -9,20 +9,28 @@ mod tests {
     use store::slices::Chip;
     use stored::page::Page;
 
-    // The entries of a grey sheet of 3 by 2 pixels of 8 bits in one strip: their tags, types and values.
+    // The entries of a grey sheet of 3 by 2 pixels of 8 bits in one strip: the tag, the type and the value of each.
     // The places under 273, 282 and 283 are filled in by `sheet`.
-    const TAGS: [u16; 12] = [256, 257, 258, 259, 262, 273, 277, 278, 279, 282, 283, 296];
-
-    const KINDS: [u16; 12] = [4, 4, 3, 3, 3, 4, 3, 4, 4, 5, 5, 3];
-
-    const VALUES: [u16; 12] = [3, 2, 8, 1, 1, 0, 1, 2, 6, 0, 0, 1];
+    const ENTRIES: [(u16, u16, u16); 12] = [
+        (256, 4, 3),
+        (257, 4, 2),
+        (258, 3, 8),
+        (259, 3, 1),
+        (262, 3, 1),
+        (273, 4, 0),
+        (277, 3, 1),
+        (278, 4, 2),
+        (279, 4, 6),
+        (282, 5, 0),
+        (283, 5, 0),
+        (296, 3, 1),
+    ];
 
     // Two bytes, the low one first.
     fn put(bytes: &mut [u8; 2048], place: usize, value: u16)
         requires { place + 2 ≤ 2048 }
     {
-        bytes[place] = (value % 256) as u8;
-        bytes[place + 1] = (value / 256) as u8;
+        bytes[place..place + 2].copy_from_slice(&value.to_le_bytes());
     }
 
     // An entry of one value.
@@ -46,8 +54,8 @@ mod tests {
         put(&mut bytes, 4, place);
         let start = place as usize;
         put(&mut bytes, start, 12);
-        for i in 0..12 {
-            put_entry(&mut bytes, start + 2 + 12 * i, TAGS[i], KINDS[i], VALUES[i]);
+        for (i, (tag, kind, value)) in ENTRIES.iter().enumerate() {
+            put_entry(&mut bytes, start + 2 + 12 * i, *tag, *kind, *value);
         }
         put(&mut bytes, start + 70, place + 166);
         put(&mut bytes, start + 118, place + 150);
@@ -60,10 +68,8 @@ mod tests {
         requires { n ≤ 2048 }
     {
         let mut chip = Chip::new(&bytes[..n]);
-        match Page::open(&mut chip, 0) {
-            Ok(page) => Some(find_place(&mut chip, page, len)),
-            Err(_) => None,
-        }
+        let page = Page::open(&mut chip, 0).ok()?;
+        Some(find_place(&mut chip, page, len))
     }
 
     #[test]

@@ -1,3 +1,2 @@
 pub mod Outlines
-pub mod Written
 pub mod Views

@@ -1,26 +1,26 @@
 -- The segments of a draft: how many there are, and how many rows each has.
-use Rattle.std.proofs.Common.{◌≡◌, ℕ, suc, ◌+◌, ◌-◌, ◌*◌, ◌/◌, ◌%◌, ◌<◌, ◌≤◌, min, Bool, true, false, eqb, leb, sym, refl, ap, ◌∙◌, ⊎_elim, mul-le-mul_right, suc-mul, div-lt_iff_lt-mul, mul-le-mul, mul-le-mul_left, le-div_iff_mul-le, zero-mul, div-one, arith}
-use native.Mathlib.Nat.{div-eq_of_lt-le, lt-div-mul-add}
+use Rattle.std.proofs.Common.{◌≡◌, ℕ, suc, ◌+◌, ◌-◌, ◌*◌, ◌/◌, ◌%◌, ◌<◌, ◌≤◌, min, true, eqb, leb, sym, refl, ap, ◌∙◌, ◌⊎◌, inl, inr, ⊎_elim, mul-le-mul_right, suc-mul, div-lt_iff_lt-mul, mul-le-mul, mul-le-mul_left, le-div_iff_mul-le, zero-mul, div-one, arith}
+use native.Mathlib.Nat.{div-eq_of_lt-le}
 use lib.Arith.{digits_lt}
-use Rattle.std.proofs.lemmas.Bool.{cond-true, cond-false, cond_both, cases_Bool, and_parts, leb-true, le-leb, eqb-true, true≢false}
+use Rattle.std.proofs.lemmas.Bool.{cond-true, cond-false, cond_both, and_parts, leb-true, le-leb, eqb-true}
 use Rattle.std.proofs.lemmas.Nat.{mul-lt}
 use Rattle.octets.specs.Rows.{Bits, ceil, packed_size}
 use Rattle.octets.proofs.Rows.{by_bits}
 use Rattle.raster.specs.declared.grid.Kind.{Kind}
 use Rattle.octets.specs.declared.endian.Endian.{Endian}
 use Rattle.raster.specs.Picture.{Picture, Sound, allowed, number_of}
+use Rattle.pages.specs.declared.layout.SegmentKind.{SegmentKind}
+use Rattle.pages.specs.declared.layout.SegmentKind.TheVariants.{Strip, Tile}
+use Rattle.pages.specs.Tags.{are_tiles}
 use Rattle.pages.specs.Geometry.{samples_of, segments, first_row, rows_of, row_bytes}
 use Rattle.pages.specs.Pages.{between, tile_side}
+use Rattle.pages.proofs.Cutting.{div_below_ceil}
 use Rattle.stored.specs.Sane.{allowed_bits}
 use Rattle.plans.specs.declared.outline.Outline.{Outline}
+use Rattle.plans.specs.declared.pieces.Pieces.{Pieces}
+use Rattle.plans.specs.declared.pieces.Pieces.TheVariants.{Strips, Tiles}
 use Rattle.plans.specs.Limits.{limited}
-use Rattle.plans.specs.Outlines.{cut_by, outlined, outline_of, Spans, Proper, segments_in, segment_size, head_size, block_size}
-
-pub ceil_covers : (n d : ℕ) → 0 < d → n ≤ ceil n d * d
-ceil_covers n d z = omega (arith, lt-div-mul-add {a = n + (d - 1)} z)
-
-pub div_below_ceil : (x n d : ℕ) → 0 < d → x < n → x / d < ceil n d
-div_below_ceil x n d z l = (div-lt_iff_lt-mul z).1 (omega (arith, ceil_covers n d z))
+use Rattle.plans.specs.Outlines.{cut_by, pieces_by, pieces_of, outlined, outline_of, Spans, Proper, segments_in, segment_size, head_size, block_size}
 
 pub samples_positive : (k : Kind) → 0 < samples_of k
 samples_positive k = cond_both (eqb (number_of k.photometric) 2) 3 1 (λ n. 0 < n) (λ _. omega arith) (λ _. omega arith)
@@ -40,13 +40,18 @@ tile_side_lem n t =
     let b = and_parts (leb 16 n) (leb n 16384) a.0 in
     record { whole = eqb-true (n % 16) 0 a.1; least = leb-true 16 n b.0; most = leb-true n 16384 b.1 }
 
-pub tile_limits : (t : Bool) (wide high : ℕ) → limited t wide high ≡ true → t ≡ true → Side wide × Side high
-tile_limits true wide high l e = let a = and_parts (tile_side wide) (tile_side high) l in (tile_side_lem wide a.0, tile_side_lem high a.1)
-tile_limits false wide high l e = absurd (true≢false (sym e))
+pub tile_limits : (kind : SegmentKind) (wide high : ℕ) → limited (pieces_by kind wide high) ≡ true → kind ≡ Tile → Side wide × Side high
+tile_limits Tile wide high l e = let a = and_parts (tile_side wide) (tile_side high) l in (tile_side_lem wide a.0, tile_side_lem high a.1)
+tile_limits Strip wide high l e = absurd cc
 
-strip_limits : (t : Bool) (wide high : ℕ) → limited t wide high ≡ true → t ≡ false → 1 ≤ high
-strip_limits true wide high l e = absurd (true≢false e)
-strip_limits false wide high l e = leb-true 1 high l
+strip_limits : (kind : SegmentKind) (wide high : ℕ) → limited (pieces_by kind wide high) ≡ true → kind ≡ Strip → 1 ≤ high
+strip_limits Tile wide high l e = absurd cc
+strip_limits Strip wide high l e = leb-true 1 high l
+
+-- a segment is a strip or a tile
+pub cases_kind : (kind : SegmentKind) → (kind ≡ Tile) ⊎ (kind ≡ Strip)
+cases_kind Tile = inl refl
+cases_kind Strip = inr refl
 
 -- the sides of a segment
 pub record SegmentSides (q : Outline) : Type 0 where
@@ -58,7 +63,7 @@ pub record SegmentSides (q : Outline) : Type 0 where
 pub segment_sides : (q : Outline) → Proper q → SegmentSides q
 segment_sides q proper =
     ⊎_elim {C = SegmentSides q}
-    (λ t. let s = tile_limits q.cut.tiled q.cut.wide q.cut.high proper.limits t in
+    (λ t. let s = tile_limits q.cut.kind q.cut.wide q.cut.high proper.limits t in
     record {
       some_wide = omega (arith, s.0.least);
       some_high = omega (arith, s.1.least);
@@ -68,11 +73,11 @@ segment_sides q proper =
     (λ f. let s = proper.spanned f in
     record {
       some_wide = omega (arith, s.0, proper.some_wide);
-      some_high = strip_limits q.cut.tiled q.cut.wide q.cut.high proper.limits f;
+      some_high = strip_limits q.cut.kind q.cut.wide q.cut.high proper.limits f;
       wide = omega (arith, s.0, proper.wide);
       high = omega (arith, s.1, proper.high);
     })
-    (cases_Bool q.cut.tiled)
+    (cases_kind q.cut.kind)
 
 pub some_segments : (q : Outline) → Proper q → 0 < segments_in q
 unfolding segments
@@ -87,16 +92,16 @@ across_strip : (w : ℕ) → 0 < w → ceil w w ≡ 1
 across_strip w z = div-eq_of_lt-le w (omega arith) (omega arith)
 
 -- the rows of a tile, and of a strip
-pub tile_rows : (q : Outline) → q.cut.tiled ≡ true → (k : ℕ) → rows_of q.cut q.width q.height k ≡ q.cut.high
-tile_rows q t k = cond-true q.cut.tiled q.cut.high (min q.cut.high (q.height - first_row q.cut q.width k)) t
+pub tile_rows : (q : Outline) → q.cut.kind ≡ Tile → (k : ℕ) → rows_of q.cut q.width q.height k ≡ q.cut.high
+tile_rows q t k = cond-true (are_tiles q.cut.kind) q.cut.high (min q.cut.high (q.height - first_row q.cut q.width k)) (ap are_tiles t)
 
-module _ (q : Outline) (proper : Proper q) (f : q.cut.tiled ≡ false) where
+module _ (q : Outline) (proper : Proper q) (f : q.cut.kind ≡ Strip) where
   one_across : ceil q.width q.cut.wide ≡ 1
   one_across = ap (ceil q.width) (proper.spanned f).0 ∙ across_strip q.width proper.some_wide
 
   pub strip_rows : (k : ℕ) → rows_of q.cut q.width q.height k ≡ min q.cut.high (q.height - k * q.cut.high)
   strip_rows k =
-      cond-false q.cut.tiled q.cut.high (min q.cut.high (q.height - first_row q.cut q.width k)) f
+      cond-false (are_tiles q.cut.kind) q.cut.high (min q.cut.high (q.height - first_row q.cut q.width k)) (ap are_tiles f)
       ∙ ap (λ a. min q.cut.high (q.height - a * q.cut.high)) (ap (λ a. k / a) one_across ∙ div-one k)
 
   strip_count : segments_in q ≡ ceil q.height q.cut.high
@@ -116,7 +121,7 @@ rows_same q proper k m =
     let all : suc (suc k) ≤ ceil q.height q.cut.high = omega (arith, strip_count q proper f) in
     let enough : suc (suc k) * q.cut.high ≤ q.height + (q.cut.high - 1) = (le-div_iff_mul-le positive).0 all in
     strip_rows q proper f k ∙ full h d k positive enough ∙ sym (strip_rows q proper f 0 ∙ first h d (proper.spanned f).1))
-    (cases_Bool q.cut.tiled)
+    (cases_kind q.cut.kind)
   where
     first : (h d : ℕ) → d ≤ h → min d (h - 0 * d) ≡ d
     first h d l = omega (arith, zero-mul d)
@@ -125,13 +130,13 @@ pub rows_most : (q : Outline) → Proper q → (k : ℕ) → rows_of q.cut q.wid
 rows_most q proper k =
     ⊎_elim (λ t. omega (arith, tile_rows q t k, tile_rows q t 0))
     (λ f. omega (arith, strip_rows q proper f k, strip_rows q proper f 0, zero-mul q.cut.high, (proper.spanned f).1))
-    (cases_Bool q.cut.tiled)
+    (cases_kind q.cut.kind)
 
 pub first_rows : (q : Outline) → Proper q → rows_of q.cut q.width q.height 0 ≡ q.cut.high
 first_rows q proper =
     ⊎_elim (λ t. tile_rows q t 0)
     (λ f. omega (arith, strip_rows q proper f 0, zero-mul q.cut.high, (proper.spanned f).1))
-    (cases_Bool q.cut.tiled)
+    (cases_kind q.cut.kind)
 
 -- a row takes some bytes, and no more than three a pixel
 row_some : (n : ℕ) → 0 < n → (b : ℕ) → Bits b → 0 < packed_size b n
@@ -199,7 +204,7 @@ pub head_bounded : (q : Outline) → segments_in q ≤ 1024 → head_size q ≤ 
 head_bounded q many =
     omega (
       arith,
-      cond_both q.cut.tiled 13 12 (λ n. n ≤ 13) (λ _. omega arith) (λ _. omega arith),
+      cond_both (are_tiles q.cut.kind) 13 12 (λ n. n ≤ 13) (λ _. omega arith) (λ _. omega arith),
       cond_both (eqb (number_of q.kind.photometric) 2) 6 0 (λ n. n ≤ 6) (λ _. omega arith) (λ _. omega arith),
       cond_both (leb (segments_in q) 1) 0 (4 * segments_in q) (λ n. n ≤ 4096) (λ _. omega arith) (λ _. omega arith),
     )
@@ -217,31 +222,30 @@ block_bounded q proper many =
 
 -- The outline of a draft is proper.
 
-pub cut_limited : (t : Bool) (wide high width height : ℕ) → limited t wide high ≡ true → 1 ≤ height
-    → limited (cut_by t wide high width height).tiled (cut_by t wide high width height).wide (cut_by t wide high width height).high ≡ true
-cut_limited false wide high width height l h = le-leb 1 (min high height) (omega (arith, leb-true 1 high l))
-cut_limited true wide high width height l h = l
+pub cut_limited : (ps : Pieces) (width height : ℕ) → limited ps ≡ true → 1 ≤ height → limited (pieces_of (cut_by ps width height)) ≡ true
+cut_limited (Strips rows) width height l h = le-leb 1 (min rows height) (omega (arith, leb-true 1 rows l))
+cut_limited (Tiles wide high) width height l h = l
 
-pub cut_spans : (t : Bool) (wide high width height : ℕ) → Spans (cut_by t wide high width height) width height
-cut_spans false wide high width height e = (refl, omega arith)
-cut_spans true wide high width height e = absurd (true≢false e)
+pub cut_spans : (ps : Pieces) (width height : ℕ) → Spans (cut_by ps width height) width height
+cut_spans (Strips rows) width height e = (refl, omega arith)
+cut_spans (Tiles wide high) width height e = absurd cc
 
-pub outlined_proper : (o : Endian) (t : Bool) (wide high width height : ℕ) (kind : Kind) → limited t wide high ≡ true
-    → allowed kind ≡ true → 1 ≤ width → width ≤ 16384 → 1 ≤ height → height ≤ 16384 → Proper (outlined o t wide high width height kind)
-outlined_proper o t wide high width height kind l k w wm h hm = record {
+pub outlined_proper : (o : Endian) (ps : Pieces) (width height : ℕ) (kind : Kind) → limited ps ≡ true
+    → allowed kind ≡ true → 1 ≤ width → width ≤ 16384 → 1 ≤ height → height ≤ 16384 → Proper (outlined o ps width height kind)
+outlined_proper o ps width height kind l k w wm h hm = record {
   kind = k;
   some_wide = w;
   some_high = h;
   wide = wm;
   high = hm;
-  limits = cut_limited t wide high width height l h;
-  spanned = cut_spans t wide high width height;
+  limits = cut_limited ps width height l h;
+  spanned = cut_spans ps width height;
 }
 
 -- a sound picture with some column has some row
 pub some_rows : (p : Picture) → Sound p → 0 < p.width → 0 < p.height
 some_rows p sound w = ⊎_elim (λ e. absurd (omega (arith, ap (λ (r : Picture). r.width) e))) (λ h. h.1) sound.sides
 
-pub outline_proper : (o : Endian) (t : Bool) (wide high : ℕ) (p : Picture) → limited t wide high ≡ true → Sound p → 0 < p.width → Proper (outline_of o t wide high p)
-outline_proper o t wide high p l sound w =
-    outlined_proper o t wide high p.width p.height p.kind l sound.kinds w sound.wide (some_rows p sound w) sound.high
+pub outline_proper : (o : Endian) (ps : Pieces) (p : Picture) → limited ps ≡ true → Sound p → 0 < p.width → Proper (outline_of o ps p)
+outline_proper o ps p l sound w =
+    outlined_proper o ps p.width p.height p.kind l sound.kinds w sound.wide (some_rows p sound w) sound.high

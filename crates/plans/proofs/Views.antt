@@ -1,5 +1,5 @@
 -- What is seen through a view, and its outline.
-use Rattle.std.proofs.Common.{◌≡◌, ℕ, ◌<◌, ◌≤◌, Bool, true, ap, arith}
+use Rattle.std.proofs.Common.{◌≡◌, ℕ, ◌<◌, ◌≤◌, true, ap, arith}
 use Rattle.std.proofs.lemmas.Bool.{and_parts, cond-true, cond_both}
 use Rattle.octets.specs.declared.endian.Endian.{Endian}
 use Rattle.raster.specs.declared.grid.Kind.{Kind}
@@ -7,6 +7,7 @@ use Rattle.raster.specs.Picture.{Picture, empty, allowed}
 use Rattle.raster.specs.Views.{fits, rectangle, crop_of, turn_by, swaps}
 use Rattle.raster.specs.Soundness.{fits_parts, crop_sound, turn_sound}
 use Rattle.pages.specs.Pages.{between}
+use Rattle.plans.specs.declared.pieces.Pieces.{Pieces}
 use Rattle.plans.specs.declared.plan.Plan.{Plan}
 use Rattle.plans.specs.declared.view.View.{View}
 use Rattle.plans.specs.Outlines.{outlined, outline_of, Proper}
@@ -29,14 +30,13 @@ views_show p v t =
     }
 
 -- the outline of what is seen, from the view and the picture's kind
-pub viewed_outline : (o : Endian) (t : Bool) (wide high : ℕ) (p : Picture) (v : View) → shows p v ≡ true
-    → outline_of o t wide high (viewed p v) ≡ outlined o t wide high (view_width v) (view_height v) p.kind
-viewed_outline o t wide high p v h =
+pub viewed_outline : (o : Endian) (ps : Pieces) (p : Picture) (v : View) → shows p v ≡ true
+    → outline_of o ps (viewed p v) ≡ outlined o ps (view_width v) (view_height v) p.kind
+viewed_outline o ps p v h =
     let s = views_show p v h in
-    λ i. outlined o t wide high (s.wide i) (s.high i) (s.kind i)
+    λ i. outlined o ps (s.wide i) (s.high i) (s.kind i)
 
 -- a plan makes proper outlines
 pub plan_proper : (plan : Plan) (width height : ℕ) (kind : Kind) → allowed kind ≡ true → 1 ≤ width → width ≤ 16384 → 1 ≤ height → height ≤ 16384
     → Proper (plan_outline plan width height kind)
-plan_proper plan width height kind k w wm h hm =
-    outlined_proper plan.endian plan.tiled plan.wide plan.high width height kind plan.limits k w wm h hm
+plan_proper plan width height kind k w wm h hm = outlined_proper plan.endian plan.pieces width height kind plan.limits k w wm h hm

@@ -1,13 +1,16 @@
 -- The block of a draft: every byte of it, from the pixels, the outline and the place. Assumes nothing.
-use Rattle.std.specs.Prelude.{ℕ, ◌+◌, ◌-◌, ◌*◌, ◌/◌, ◌%◌, ◌^◌, Bool, true, false, cond, List, [], ◌∷◌, ◌++◌, nat_lt}
+use Rattle.std.specs.Prelude.{ℕ, ◌+◌, ◌-◌, ◌*◌, ◌/◌, ◌%◌, ◌^◌, cond, List, [], ◌∷◌, ◌++◌, nat_lt}
 use Rattle.octets.specs.declared.endian.Endian.{Endian}
 use Rattle.octets.specs.Digits.{packed, digit}
 use Rattle.octets.specs.Numbers.{number_bytes}
 use Rattle.octets.specs.Rows.{byte, chain, per_byte, padded, packed_row, tabulate}
 use Rattle.raster.specs.Picture.{Picture, framed, number_of}
 use Rattle.links.specs.Links.{magic}
+use Rattle.pages.specs.declared.layout.SegmentKind.{SegmentKind}
+use Rattle.pages.specs.declared.layout.SegmentKind.TheVariants.{Strip, Tile}
 use Rattle.pages.specs.Geometry.{samples_of, first_column, first_row, rows_of, row_bytes}
 use Rattle.plans.specs.declared.outline.Outline.{Outline}
+use Rattle.plans.specs.declared.pieces.Pieces.{Pieces}
 use Rattle.plans.specs.Outlines.{outline_of, segments_in, segment_size, head_size}
 use Rattle.plans.specs.Directories.{Field, shorts, longs, rational, directory_bytes}
 
@@ -41,8 +44,8 @@ abbrev pub sample_bits : Outline → List ℕ
 sample_bits q = tabulate (samples_of q.kind) (λ _. q.kind.bits)
 
 -- the fields in tag order, of strips or of tiles the first of which begins at `start`
-abbrev pub fields_by : Bool → Outline → ℕ → List Field
-fields_by false q start =
+abbrev pub fields_by : SegmentKind → Outline → ℕ → List Field
+fields_by Strip q start =
     longs 256 (q.width ∷ [])
     ∷ longs 257 (q.height ∷ [])
     ∷ shorts 258 (sample_bits q)
@@ -56,7 +59,7 @@ fields_by false q start =
     ∷ rational 283 1 1
     ∷ shorts 296 (1 ∷ [])
     ∷ []
-fields_by true q start =
+fields_by Tile q start =
     longs 256 (q.width ∷ [])
     ∷ longs 257 (q.height ∷ [])
     ∷ shorts 258 (sample_bits q)
@@ -73,15 +76,15 @@ fields_by true q start =
     ∷ []
 
 abbrev pub fields_in : Outline → ℕ → List Field
-fields_in q place = fields_by q.cut.tiled q (place + head_size q)
+fields_in q place = fields_by q.cut.kind q (place + head_size q)
 
 -- the block at a place: a directory, the values longer than 4 bytes, the segments
 unfoldable pub block : Outline → (ℕ → ℕ → ℕ) → ℕ → List ℕ
 block q at place = directory_bytes q.endian place (fields_in q place) ++ chain (segments_in q) (segment q at)
 
--- the block of a picture, by a plan's numbers
-abbrev pub block_of : Endian → Bool → ℕ → ℕ → Picture → ℕ → List ℕ
-block_of o tiled wide high p place = block (outline_of o tiled wide high p) p.at place
+-- the block of a picture, cut into pieces
+abbrev pub block_of : Endian → Pieces → Picture → ℕ → List ℕ
+block_of o pieces p place = block (outline_of o pieces p) p.at place
 
 -- the 8 header bytes of a file whose first directory stands at a place
 abbrev pub header : Endian → ℕ → List ℕ

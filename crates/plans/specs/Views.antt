@@ -1,11 +1,10 @@
 -- Views: a rectangle of a picture, turned. Assumes nothing.
-use Rattle.std.specs.Prelude.{◌≡◌, ℕ, ◌+◌, ◌<◌, Bool, true, cond, not, ◌&&◌, Ok, Result, nat_le, nat_lt}
+use Rattle.std.specs.Prelude.{◌≡◌, ℕ, ◌<◌, Bool, true, cond, not, ◌&&◌, Ok, Result}
 use Rattle.faults.specs.declared.fault.Check.TheVariants.{View as ViewCheck}
 use Rattle.faults.specs.declared.fault.Fault.{Fault}
 use Rattle.faults.specs.Faults.{bare, refused}
-use Rattle.raster.specs.declared.grid.Area.{Area}
 use Rattle.raster.specs.Picture.{Picture, Sound}
-use Rattle.raster.specs.Views.{crop_of, swaps, turn_by}
+use Rattle.raster.specs.Views.{area_fits, crop_of, swaps, turn_by}
 use Rattle.pages.specs.Pages.{between}
 use Rattle.plans.specs.declared.view.View.{View}
 
@@ -13,13 +12,9 @@ use Rattle.plans.specs.declared.view.View.{View}
 abbrev pub viewed : Picture → View → Picture
 viewed p v = turn_by v.turn (crop_of p v.area)
 
--- an area has both sides above 0 and passes no edge of a picture of these sides
-abbrev pub fits_in : ℕ → ℕ → Area → Bool
-fits_in width height a = (nat_lt 0 a.width && nat_lt 0 a.height) && (nat_le (a.x + a.width) width && nat_le (a.y + a.height) height)
-
--- a view of a picture of these sides: such an area, and a turn from 1 to 8
+-- a view of a picture of these sides: an area with sides above 0 that passes no edge, and a turn from 1 to 8
 abbrev pub shows_in : ℕ → ℕ → View → Bool
-shows_in width height v = fits_in width height v.area && between 1 8 v.turn
+shows_in width height v = area_fits width height v.area && between 1 8 v.turn
 
 abbrev pub shows : Picture → View → Bool
 shows p v = shows_in p.width p.height v

@@ -2,16 +2,15 @@
 ghost use Rattle.std.specs.Prelude.{◌≡◌, true};
 ghost use Rattle.plans.specs.Limits.{limited};
 
+use crate::pieces::Pieces;
 use octets::endian::Endian;
 
 pub mod making;
 
-// A byte order, and strips of `high` rows each, or tiles of `wide` by `high` pixels.
+// A byte order, and the pieces that a picture is cut into.
 #[derive(Clone, Copy)]
 pub struct Plan {
     endian: Endian,
-    tiled: bool,
-    wide: u32,
-    high: u32,
-    ghost limits: { limited tiled wide high ≡ true },
+    pieces: Pieces,
+    ghost limits: { limited pieces ≡ true },
 }

@@ -9,6 +9,7 @@ use raster::grid::{Area, Size};
 #[derive(Clone, Copy)]
 pub struct View {
     pub area: Area,
+    // Any number, as `raster::turn::Turn` takes it: a check refuses those outside 1 to 8.
     pub turn: u8,
 }
 
@@ -17,17 +18,11 @@ impl View {
     pub fn check(self, size: Size) -> Result<(), Fault>
         ensures { result ≡ view_checked size.width size.height self }
     {
-        let area = self.area;
-        if area.width == 0
-            || area.height == 0
-            || area.x as u64 + area.width as u64 > size.width as u64
-            || area.y as u64 + area.height as u64 > size.height as u64
-            || self.turn < 1
-            || self.turn > 8
-        {
-            return Err(Check::View.fault());
+        if self.area.fits(size) && (1..=8).contains(&self.turn) {
+            Ok(())
+        } else {
+            Err(Check::View.fault())
         }
-        Ok(())
     }
 
     // The sides of what is seen: turns 5 to 8 swap them.
@@ -36,17 +31,11 @@ impl View {
         ensures height { result.height ≡ view_height self }
     {
         let area = self.area;
-        if self.turn >= 5 && self.turn <= 8 {
-            Size {
-                width: area.height,
-                height: area.width,
-            }
-        } else {
-            Size {
-                width: area.width,
-                height: area.height,
-            }
-        }
+        let size = Size {
+            width: area.width,
+            height: area.height,
+        };
+        size.turned(self.turn)
     }
 }
 

@@ -1,9 +1,12 @@
 -- The lengths of a head and of a body.
-use Rattle.std.proofs.Common.{◌≡◌, ℕ, ◌+◌, ◌*◌, ◌/◌, ◌%◌, Bool, true, false, cond, List, [], ◌∷◌, ◌++◌, length, decimal, sym, refl, ap, ◌∙◌, ap₂, arith, length-append}
-use Rattle.std.proofs.lemmas.List.{length_push}
+use Rattle.std.proofs.Common.{◌≡◌, ℕ, ◌+◌, ◌*◌, ◌/◌, ◌%◌, Bool, true, false, cond, List, [], ◌∷◌, ◌++◌, length, sym, refl, ap, ◌∙◌, ap₂, arith, length-append}
+use Rattle.std.proofs.lemmas.Bool.{cond-false}
 use Rattle.std.proofs.lemmas.List.FromFn.{length-map-range_with_len}
 use Rattle.raster.specs.Picture.{Picture}
-use Rattle.pnm.specs.Netpbm.{head, numeral, depth, bilevel, colour, grey, pixel_bytes, octet, octet_row, pixel_row, row_bytes, body, stride, printed}
+use Rattle.pnm.specs.Netpbm.{head, numeral, depth, bilevel, colour, grey, largest, pixel_bytes, octet, octet_row, pixel_row, row_bytes, body, stride, printed}
+use Rattle.pnm.specs.Layouts.{LaysOut}
+use Rattle.pnm.specs.declared.layout.Layout.{Layout}
+use Rattle.pnm.specs.declared.layout.Layout.TheVariants.{Bitmap, Greymap, Pixmap}
 use Rattle.octets.proofs.Runs.{run_length}
 use Rattle.raster.specs.declared.grid.Kind.{Kind}
 
@@ -12,8 +15,11 @@ pub length_head : (w h : ℕ) (k : Kind) →
 length_head w h k =
     omega (arith, length-append (numeral w 32) (numeral h 10 ++ depth k), length-append (numeral h 10) (depth k))
 
-pub length_numeral : (n end : ℕ) → length (numeral n end) ≡ length (decimal n) + 1
-length_numeral n end = length_push (decimal n) end
+-- all layouts but the bitmap have a line of the largest value
+pub depth_some : (l : Layout) (k : Kind) (n : ℕ) → LaysOut l k → (l ≡ Bitmap → ⊥) → n ≡ largest k → numeral n 10 ≡ depth k
+depth_some Bitmap k n h not e = absurd (not refl)
+depth_some Greymap k n h not e = ap (λ m. numeral m 10) e ∙ sym (cond-false (bilevel k) [] _ h.0)
+depth_some Pixmap k n h not e = ap (λ m. numeral m 10) e ∙ sym (cond-false (bilevel k) [] _ h.0)
 
 pub length_pixel : (k : Kind) (v : ℕ) → length (pixel_bytes k v) ≡ cond (colour k) 3 1
 length_pixel k v = pick (colour k)

@@ -1,3 +1,4 @@
+pub mod Cursors
 pub mod Decimals
 pub mod Heads
 pub mod Samples

@@ -1,6 +1,6 @@
 // Netpbm files: what a picture's file is, and the writing of its head and its pixels.
 #![tactic(auto)]
 
-pub mod head;
-pub mod output;
-pub mod pixels;
+pub mod cursor;
+pub mod format;
+pub mod layout;

@@ -1,11 +1,12 @@
 -- One turn after another is one turn: by the law on swaps and reversals, and one test over the whole table.
-use Rattle.std.proofs.Common.{◌≡◌, ℕ, ◌+◌, ◌-◌, ◌*◌, ◌/◌, ◌%◌, ◌<◌, ◌≤◌, Bool, true, false, cond, not, T, ltb, get_or, sym, refl, ◌∙◌, ap₂, subst₂, arith, ltb→lt}
-use Rattle.std.proofs.lemmas.Bool.Decides.{nat_tests}
+use Rattle.std.specs.Prelude.{◌&&◌, nat_lt, slice_index, slice_index_or}
+use Rattle.std.proofs.Common.{◌≡◌, ℕ, zero, suc, ◌-◌, ◌<◌, ◌≤◌, Bool, true, false, cond, not, [], sym, refl, ◌∙◌, ap₂, subst₂, arith}
+use Rattle.std.proofs.lemmas.Bool.{and_parts, ltb-true}
+use Rattle.std.proofs.lemmas.Bool.Decides.{nat_tests, Decides-below_and}
 use Rattle.raster.specs.Picture.{Picture, framed, reshaped}
 use Rattle.raster.specs.Views.{turn_by, swaps, mirrors, flips, reversed, counted}
 use Rattle.raster.specs.Turns.{table, composed, Composes, Rule}
 use Rattle.raster.proofs.Frames.{framed_inside, reshaped_same}
-use Rattle.raster.proofs.Table.{at, both, both_left, both_right}
 
 abbrev unlike : Bool → Bool → Bool
 unlike true b = not b
@@ -50,25 +51,21 @@ shape_shape false m f true n g p = reshaped_same p p.height p.width _ _ (λ x y 
 shape_shape true m f false n g p = reshaped_same p p.height p.width _ _ (λ x y hx hy. crossed p m f n g y x hy hx)
 shape_shape true m f true n g p = reshaped_same p p.width p.height _ _ (crossed p m f n g)
 
--- a number that counts as turn 1 turns as 1 does
-within_turns : (k : ℕ) → (1 ≤ k) × (k ≤ 8) → counted k ≡ k
-within_turns k h = grind (arith, nat_tests)
-
 counted_range : (k : ℕ) → (1 ≤ counted k) × (counted k ≤ 8)
 counted_range k = grind (arith, nat_tests)
 
-pub turn_counted : (k : ℕ) → turn_by (counted k) ≡ turn_by k
+-- a number that counts as turn 1 turns as 1 does
+turn_counted : (k : ℕ) → turn_by (counted k) ≡ turn_by k
 turn_counted k = grind (arith, nat_tests)
 
 abbrev alike : Bool → Bool → Bool
 alike true b = b
 alike false b = not b
 
-same_from_alike : (a b : Bool) → T (alike a b) → a ≡ b
-same_from_alike true true t = refl
-same_from_alike true false t = absurd t
-same_from_alike false true t = absurd t
-same_from_alike false false t = refl
+same_from_alike : (a b : Bool) → alike a b ≡ true → a ≡ b
+same_from_alike true b e = sym e
+same_from_alike false true e = e
+same_from_alike false false e = refl
 
 -- t is the turn that a and then b amount to: what it swaps and reverses, and its range
 module _ (a b t : ℕ) where
@@ -82,48 +79,53 @@ module _ (a b t : ℕ) where
   row_test = alike (flips t) (unlike (flips a) (cond (swaps a) (mirrors b) (flips b)))
 
   abbrev composes : Bool
-  composes = both (both swap_test (both column_test row_test)) (both (ltb 0 t) (ltb t 9))
+  composes = (swap_test && (column_test && row_test)) && (nat_lt 0 t && nat_lt t 9)
 
-  composes_turn : T composes → (p : Picture) → turn_by b (turn_by a p) ≡ turn_by t p
-  composes_turn test p =
-      let three = both_left (both swap_test (both column_test row_test)) (both (ltb 0 t) (ltb t 9)) test in
-      let two = both_right swap_test (both column_test row_test) three in
-      let s = same_from_alike (swaps t) _ (both_left swap_test (both column_test row_test) three) in
-      let m = same_from_alike (mirrors t) _ (both_left column_test row_test two) in
-      let f = same_from_alike (flips t) _ (both_right column_test row_test two) in
-      shape_shape (swaps a) (mirrors a) (flips a) (swaps b) (mirrors b) (flips b) p
-      ∙ sym (λ i. shape (s i) (m i) (f i) p)
+  composes_turn : composes ≡ true → Composes a b t
+  composes_turn test =
+      let parts = and_parts (swap_test && (column_test && row_test)) (nat_lt 0 t && nat_lt t 9) test in
+      let range = and_parts (nat_lt 0 t) (nat_lt t 9) parts.1 in
+      let shapes = and_parts swap_test (column_test && row_test) parts.0 in
+      let reversals = and_parts column_test row_test shapes.1 in
+      let s = same_from_alike (swaps t) _ shapes.0 in
+      let m = same_from_alike (mirrors t) _ reversals.0 in
+      let f = same_from_alike (flips t) _ reversals.1 in
+      record {
+        range = (ltb-true 0 t range.0, omega (arith, ltb-true t 9 range.1));
+        rule = λ p.
+            shape_shape (swaps a) (mirrors a) (flips a) (swaps b) (mirrors b) (flips b) p
+            ∙ sym (λ i. shape (s i) (m i) (f i) p);
+      }
 
-  composes_range : T composes → (1 ≤ t) × (t ≤ 8)
-  composes_range test =
-      let r = both_right (both swap_test (both column_test row_test)) (both (ltb 0 t) (ltb t 9)) test in
-      (ltb→lt 0 t (both_left (ltb 0 t) (ltb t 9) r), omega (arith, ltb→lt t 9 (both_right (ltb 0 t) (ltb t 9) r)))
+abbrev all_below : (ℕ → Bool) → ℕ → Bool
+all_below f zero = true
+all_below f (suc n) = f n && all_below f n
 
--- the test of a table's entry, at its place counted from 0
-abbrev entry : ℕ → ℕ → Bool
-entry k t = composes (k / 8 + 1) (k % 8 + 1) t
+each_below : (f : ℕ → Bool) (n : ℕ) → all_below f n ≡ true → (k : ℕ) → k < n → f k ≡ true
+each_below f n = (Decides-below_and f (λ k. f k ≡ true) (all_below f) (λ _. (λ e. e, λ e. e)) refl (λ _. refl) n).0
 
--- the rule at a place of the table
-placed : (a b i : ℕ) → i ≡ 8 * (counted a - 1) + (counted b - 1) → Composes a b (get_or table i 0)
+-- the test of the table's entry at a row and a column counted from 0
+abbrev entry_test : ℕ → ℕ → Bool
+entry_test a b = composes (suc a) (suc b) (slice_index (slice_index_or table a []) b)
+
+each_entry : (a b : ℕ) → a < 8 → b < 8 → entry_test a b ≡ true
 unfolding table
-placed a b i place =
-    let ra = counted_range a in
-    let rb = counted_range b in
-    let row : i / 8 + 1 ≡ counted a = omega arith in
-    let column : i % 8 + 1 ≡ counted b = omega arith in
-    let t : ℕ = get_or table i 0 in
-    let test : T (composes (counted a) (counted b) t) =
-    subst₂ (λ (x y : ℕ). T (composes x y t)) row column (at entry table tt i (omega arith)) in
-    record {
-      range = composes_range (counted a) (counted b) t test;
-      rule = λ p.
-          ap₂ (λ (f g : Picture → Picture). f (g p)) (sym (turn_counted b)) (sym (turn_counted a))
-          ∙ composes_turn (counted a) (counted b) t test p;
-    }
+each_entry a b ha hb = each_below (entry_test a) 8 (each_below (λ r. all_below (entry_test r) 8) 8 refl a ha) b hb
 
 pub composed_rule : (a b : ℕ) → Composes a b (composed a b)
 unfolding composed
-composed_rule a b = placed a b _ refl
+composed_rule a b =
+    let ra = counted_range a in
+    let rb = counted_range b in
+    let t : ℕ = composed a b in
+    let test = each_entry (counted a - 1) (counted b - 1) (omega arith) (omega arith) in
+    let row : suc (counted a - 1) ≡ counted a = omega arith in
+    let column : suc (counted b - 1) ≡ counted b = omega arith in
+    let counts = subst₂ (λ (x y : ℕ). Composes x y t) row column (composes_turn _ _ t test) in
+    record {
+      range = counts.range;
+      rule = λ p. ap₂ (λ (f g : Picture → Picture). f (g p)) (sym (turn_counted b)) (sym (turn_counted a)) ∙ counts.rule p;
+    }
 
 pub table_rule : Rule
 unfolding composed table

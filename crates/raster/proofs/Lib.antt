@@ -1,4 +1,3 @@
-pub mod Table
 pub mod Frames
 pub mod Places
 pub mod Compose

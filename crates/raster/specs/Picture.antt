@@ -6,6 +6,7 @@ use Rattle.faults.specs.Faults.{bare}
 use Rattle.raster.specs.declared.grid.Kind.{Kind}
 use Rattle.raster.specs.declared.grid.Photometric.{Photometric}
 use Rattle.raster.specs.declared.grid.Photometric.TheVariants.{WhiteIsZero, BlackIsZero, Rgb}
+use Rattle.raster.specs.declared.kind.UnknownPhotometric.{UnknownPhotometric}
 
 -- `at x y` is the pixel number at column x, row y, and 0 where x or y is not below its side:
 -- so two pictures are equal as soon as their sides, kinds and inner pixels are.
@@ -31,6 +32,13 @@ abbrev pub number_of : Photometric → ℕ
 number_of WhiteIsZero = 0
 number_of BlackIsZero = 1
 number_of Rgb = 2
+
+abbrev pub unknown : ℕ → UnknownPhotometric
+unknown n = record { number = n }
+
+-- the photometric interpretation of a number
+abbrev pub numbered : ℕ → Result Photometric UnknownPhotometric
+numbered n = cond (n == 0) (Ok WhiteIsZero) (cond (n == 1) (Ok BlackIsZero) (cond (n == 2) (Ok Rgb) (Err (unknown n))))
 
 abbrev pub kind_of : Photometric → ℕ → Kind
 kind_of p b = record { photometric = p; bits = b }

@@ -1,5 +1,5 @@
 -- The eight turns place by place, and what one after another amounts to. Assumes nothing.
-use Rattle.std.specs.Prelude.{◌≡◌, ℕ, ◌+◌, ◌-◌, ◌*◌, ◌<◌, ◌≤◌, ◌⊎◌, List, [], ◌∷◌, slice_index}
+use Rattle.std.specs.Prelude.{◌≡◌, ℕ, ◌-◌, ◌<◌, ◌≤◌, ◌⊎◌, List, [], ◌∷◌, slice_index, slice_index_or}
 use Rattle.raster.specs.Picture.{Picture, Sound}
 use Rattle.raster.specs.Views.{turn_by, crop_of, counted}
 use Rattle.raster.specs.declared.grid.Area.{Area}
@@ -23,21 +23,21 @@ pub record Eight (p : Picture) (W L : ℕ) : Type 0 where
   pub others : (k : ℕ) → (k ≡ 0) ⊎ (8 < k) → turn_by k p ≡ turn_by 1 p
 
 -- row a, column b, both counted from 1: the one turn that a turn by a and then by b amounts to
-unfoldable pub table : List ℕ
+unfoldable pub table : List (List ℕ)
 table =
-    1 ∷ 2 ∷ 3 ∷ 4 ∷ 5 ∷ 6 ∷ 7 ∷ 8 ∷
-    2 ∷ 1 ∷ 4 ∷ 3 ∷ 8 ∷ 7 ∷ 6 ∷ 5 ∷
-    3 ∷ 4 ∷ 1 ∷ 2 ∷ 7 ∷ 8 ∷ 5 ∷ 6 ∷
-    4 ∷ 3 ∷ 2 ∷ 1 ∷ 6 ∷ 5 ∷ 8 ∷ 7 ∷
-    5 ∷ 6 ∷ 7 ∷ 8 ∷ 1 ∷ 2 ∷ 3 ∷ 4 ∷
-    6 ∷ 5 ∷ 8 ∷ 7 ∷ 4 ∷ 3 ∷ 2 ∷ 1 ∷
-    7 ∷ 8 ∷ 5 ∷ 6 ∷ 3 ∷ 4 ∷ 1 ∷ 2 ∷
-    8 ∷ 7 ∷ 6 ∷ 5 ∷ 2 ∷ 1 ∷ 4 ∷ 3 ∷
+    (1 ∷ 2 ∷ 3 ∷ 4 ∷ 5 ∷ 6 ∷ 7 ∷ 8 ∷ []) ∷
+    (2 ∷ 1 ∷ 4 ∷ 3 ∷ 8 ∷ 7 ∷ 6 ∷ 5 ∷ []) ∷
+    (3 ∷ 4 ∷ 1 ∷ 2 ∷ 7 ∷ 8 ∷ 5 ∷ 6 ∷ []) ∷
+    (4 ∷ 3 ∷ 2 ∷ 1 ∷ 6 ∷ 5 ∷ 8 ∷ 7 ∷ []) ∷
+    (5 ∷ 6 ∷ 7 ∷ 8 ∷ 1 ∷ 2 ∷ 3 ∷ 4 ∷ []) ∷
+    (6 ∷ 5 ∷ 8 ∷ 7 ∷ 4 ∷ 3 ∷ 2 ∷ 1 ∷ []) ∷
+    (7 ∷ 8 ∷ 5 ∷ 6 ∷ 3 ∷ 4 ∷ 1 ∷ 2 ∷ []) ∷
+    (8 ∷ 7 ∷ 6 ∷ 5 ∷ 2 ∷ 1 ∷ 4 ∷ 3 ∷ []) ∷
     []
 
 -- the turn that a turn by a and then by b amounts to
 unfoldable pub composed : ℕ → ℕ → ℕ
-composed a b = slice_index table (8 * (counted a - 1) + (counted b - 1))
+composed a b = slice_index (slice_index_or table (counted a - 1) []) (counted b - 1)
 
 -- one turn t that does on every picture what a and then b do
 pub record Composes (a b t : ℕ) : Type 0 where

@@ -3,9 +3,12 @@ use Rattle.std.specs.Prelude.{ℕ, ◌+◌, ◌-◌, Bool, cond, ◌&&◌, ◌||
 use Rattle.raster.specs.Picture.{Picture, reshaped, empty}
 use Rattle.raster.specs.declared.grid.Area.{Area}
 
--- a rectangle with both sides above 0 that passes no edge
+-- a rectangle with both sides above 0 that passes no edge of a picture of these sides
+abbrev pub area_fits : ℕ → ℕ → Area → Bool
+area_fits width height a = (nat_lt 0 a.width && nat_lt 0 a.height) && (nat_le (a.x + a.width) width && nat_le (a.y + a.height) height)
+
 abbrev pub fits : Picture → Area → Bool
-fits p a = (nat_lt 0 a.width && nat_lt 0 a.height) && (nat_le (a.x + a.width) p.width && nat_le (a.y + a.height) p.height)
+fits p a = area_fits p.width p.height a
 
 abbrev pub rectangle : Picture → Area → Picture
 rectangle p a = reshaped p a.width a.height (λ x y. p.at (a.x + x) (a.y + y))

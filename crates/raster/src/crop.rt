@@ -47,10 +47,7 @@ impl<G: Grid> Grid for Crop<G> {
                 height: self.area.height,
             }
         } else {
-            Size {
-                width: 0,
-                height: 0,
-            }
+            Size::EMPTY
         }
     }
 
@@ -58,10 +55,7 @@ impl<G: Grid> Grid for Crop<G> {
         if fits(&self.below, self.area) {
             self.below.kind()
         } else {
-            Kind {
-                photometric: Photometric::BlackIsZero,
-                bits: 1,
-            }
+            Kind::EMPTY
         }
     }
 
@@ -78,9 +72,5 @@ impl<G: Grid> Grid for Crop<G> {
 pub fn fits<G: Grid>(grid: &G, area: Area) -> bool
     ensures { result ≡ fits (G.picture grid.now) area }
 {
-    let size = grid.size();
-    area.width > 0
-        && area.height > 0
-        && area.x as u64 + area.width as u64 <= size.width as u64
-        && area.y as u64 + area.height as u64 <= size.height as u64
+    area.fits(grid.size())
 }

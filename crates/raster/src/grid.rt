@@ -1,6 +1,7 @@
 // Grids of pixels, and what every grid promises.
 ghost use Rattle.std.specs.Prelude.{◌≡◌};
 ghost use Rattle.raster.specs.Picture.{Picture, Sound, pixel_of};
+ghost use Rattle.raster.specs.Views.{area_fits};
 ghost use Rattle.raster.specs.Kept.{Kept, nothing};
 
 use faults::fault::Fault;
@@ -9,6 +10,14 @@ use faults::fault::Fault;
 pub struct Size {
     pub width: u32,
     pub height: u32,
+}
+
+impl Size {
+    // The sides of an empty grid.
+    pub const EMPTY: Size = Size {
+        width: 0,
+        height: 0,
+    };
 }
 
 // A rectangle of a grid, by its first pixel and its sides.
@@ -20,11 +29,23 @@ pub struct Area {
     pub height: u32,
 }
 
+impl Area {
+    // Whether it has sides above 0 and passes no edge of a picture of this size.
+    pub fn fits(self, size: Size) -> bool
+        ensures { result ≡ area_fits size.width size.height self }
+    {
+        self.width > 0
+            && self.height > 0
+            && self.x as u64 + self.width as u64 <= size.width as u64
+            && self.y as u64 + self.height as u64 <= size.height as u64
+    }
+}
+
 #[derive(Clone, Copy, PartialEq, Eq, Debug)]
 pub enum Photometric {
-    WhiteIsZero,
-    BlackIsZero,
-    Rgb,
+    WhiteIsZero = 0,
+    BlackIsZero = 1,
+    Rgb = 2,
 }
 
 // What a pixel number means: the photometric interpretation and the bits of a sample.

@@ -1,8 +1,8 @@
 // A grid under one of the eight turns, as a grid.
-ghost use Rattle.std.specs.Prelude.{◌≡◌};
+ghost use Rattle.std.specs.Prelude.{◌≡◌, cond};
 ghost use Rattle.raster.specs.Picture.{Picture};
 ghost use Rattle.raster.specs.Turns.{Eight};
-ghost use Rattle.raster.specs.Views.{turn_by, swaps, mirrors, flips};
+ghost use Rattle.raster.specs.Views.{turn_by, swaps, column_below, row_below};
 ghost use Rattle.raster.specs.Kept.{through};
 ghost use Rattle.raster.specs.Layers.{turned};
 ghost use Rattle.raster.specs.Soundness.{turned_sound};
@@ -11,6 +11,7 @@ use crate::grid::*;
 use faults::fault::{Check, Fault};
 
 // The grid below under one of the eight turns; a number outside 1 to 8 counts as 1.
+// A turn is a u8 throughout, since an enum would ask more of callers.
 #[derive(Drop)]
 pub struct Turn<G> {
     below: G,
@@ -42,15 +43,7 @@ impl<G: Grid> Grid for Turn<G> {
     ghost keeps = { through (λ l. l.below) G.Grid.picture G.Grid.keeps };
 
     fn size(&self) -> Size {
-        let size = self.below.size();
-        if swaps(self.turn) {
-            Size {
-                width: size.height,
-                height: size.width,
-            }
-        } else {
-            size
-        }
+        self.below.size().turned(self.turn)
     }
 
     fn kind(&self) -> Kind {
@@ -63,38 +56,54 @@ impl<G: Grid> Grid for Turn<G> {
             return Err(Check::Outside.fault());
         }
         let below = self.below.size();
-        let (column, row) = if swaps(self.turn) { (y, x) } else { (x, y) };
-        let column = if mirrors(self.turn) {
-            below.width - 1 - column
-        } else {
-            column
-        };
-        let row = if flips(self.turn) {
-            below.height - 1 - row
-        } else {
-            row
-        };
+        let column = column_below(self.turn, below.width, x, y);
+        let row = row_below(self.turn, below.height, x, y);
         self.below.pixel(column, row)
     }
 }
 
+impl Size {
+    // The sides under a turn.
+    pub fn turned(self, turn: u8) -> Size
+        ensures width { result.width ≡ cond (swaps turn) self.height self.width }
+        ensures height { result.height ≡ cond (swaps turn) self.width self.height }
+    {
+        if swaps(turn) {
+            Size {
+                width: self.height,
+                height: self.width,
+            }
+        } else {
+            self
+        }
+    }
+}
+
 // Whether a turn swaps the sides.
-fn swaps(turn: u8) -> bool
+pub fn swaps(turn: u8) -> bool
     ensures { result ≡ swaps turn }
 {
-    turn >= 5 && turn <= 8
+    matches!(turn, 5..=8)
 }
 
-// Whether a turn reverses the columns below.
-fn mirrors(turn: u8) -> bool
-    ensures { result ≡ mirrors turn }
+// The column below that a turn shows at column x, row y, over a picture so wide.
+pub fn column_below(turn: u8, width: u32, x: u32, y: u32) -> u32
+    ensures { result ≡ column_below turn width x y }
 {
-    turn == 2 || turn == 3 || turn == 7 || turn == 8
+    let column = if swaps(turn) { y } else { x };
+    match turn {
+        2 | 3 | 7 | 8 => width.saturating_sub(1).saturating_sub(column),
+        _ => column,
+    }
 }
 
-// Whether a turn reverses the rows below.
-fn flips(turn: u8) -> bool
-    ensures { result ≡ flips turn }
+// The row below that a turn shows at column x, row y, over a picture so high.
+pub fn row_below(turn: u8, height: u32, x: u32, y: u32) -> u32
+    ensures { result ≡ row_below turn height x y }
 {
-    turn == 3 || turn == 4 || turn == 6 || turn == 7
+    let row = if swaps(turn) { x } else { y };
+    match turn {
+        3 | 4 | 6 | 7 => height.saturating_sub(1).saturating_sub(row),
+        _ => row,
+    }
 }

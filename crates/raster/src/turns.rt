@@ -4,16 +4,15 @@ ghost use Rattle.raster.specs.Views.{counted};
 ghost use Rattle.raster.specs.Turns.{composed, Composes, Rule};
 
 // Row a, column b, both counted from 1: the one turn that a turn by a and then by b amounts to.
-#[rattlefmt::skip]
-const TURNS: [u8; 64] = [
-    1, 2, 3, 4, 5, 6, 7, 8,
-    2, 1, 4, 3, 8, 7, 6, 5,
-    3, 4, 1, 2, 7, 8, 5, 6,
-    4, 3, 2, 1, 6, 5, 8, 7,
-    5, 6, 7, 8, 1, 2, 3, 4,
-    6, 5, 8, 7, 4, 3, 2, 1,
-    7, 8, 5, 6, 3, 4, 1, 2,
-    8, 7, 6, 5, 2, 1, 4, 3,
+const TURNS: [[u8; 8]; 8] = [
+    [1, 2, 3, 4, 5, 6, 7, 8],
+    [2, 1, 4, 3, 8, 7, 6, 5],
+    [3, 4, 1, 2, 7, 8, 5, 6],
+    [4, 3, 2, 1, 6, 5, 8, 7],
+    [5, 6, 7, 8, 1, 2, 3, 4],
+    [6, 5, 8, 7, 4, 3, 2, 1],
+    [7, 8, 5, 6, 3, 4, 1, 2],
+    [8, 7, 6, 5, 2, 1, 4, 3],
 ];
 
 // The one turn that a turn by `first` and then by `second` amounts to on every picture.
@@ -24,12 +23,15 @@ pub fn then(first: u8, second: u8) -> u8
 {
     let row = counted(first) - 1;
     let column = counted(second) - 1;
-    TURNS[8 * row as usize + column as usize]
+    TURNS[row as usize][column as usize]
 }
 
 // A number outside 1 to 8 counts as turn 1.
 pub fn counted(turn: u8) -> u8
     ensures { result ≡ counted turn }
 {
-    if turn >= 1 && turn <= 8 { turn } else { 1 }
+    match turn {
+        1..=8 => turn,
+        _ => 1,
+    }
 }

@@ -5,6 +5,7 @@ use raster::crop::Crop;
 use raster::grid::*;
 use raster::turn::Turn;
 use raster::turns::then;
+use sheets::sheet::Sheet;
 use std::process::Abort;
 
 // What stands in a buffer before a window is printed into it.
@@ -21,13 +22,9 @@ fn area(x: u32, y: u32, width: u32, height: u32) -> Area {
 
 // Whether the buffer holds the file, and beyond it what stood there before.
 fn holds(buffer: &[u8], file: &[u8]) -> bool {
-    for i in 0..buffer.len() {
-        let byte = if i < file.len() { file[i] } else { BEFORE };
-        if buffer[i] != byte {
-            return false;
-        }
-    }
-    true
+    buffer
+        .strip_prefix(file)
+        .is_some_and(|rest| rest.iter().all(|&byte| byte == BEFORE))
 }
 
 // Prints into the front of a buffer, so many bytes of it.
@@ -37,10 +34,8 @@ fn window_in<G: Grid>(
     buffer: &mut [u8],
     room: usize,
 ) -> Result<usize, Fault> {
-    if room > buffer.len() {
-        return Err(Check::Past.fault());
-    }
-    window(grid, area, &mut buffer[0..room])
+    let front = buffer.get_mut(0..room).ok_or(Check::Past.fault())?;
+    window(grid, area, front)
 }
 
 // In so much room, the answer is this, and the buffer then holds the file.
@@ -79,36 +74,33 @@ fn prints_whole<G: Grid>(rt: &impl Abort, grid: &mut G, file: &[u8]) {
     prints(rt, grid, area(0, 0, size.width, size.height), file);
 }
 
+// Under each turn, and under the numbers 0 and 9 that count as turn 1, the picture prints as the file expected.
+fn prints_turned<'a, F: Fn(u8) -> &'a [u8]>(rt: &impl Abort, picture: Sheet, expected: F)
+    requires { F.IsAlwaysCallable expected }
+{
+    for k in 0..10 {
+        prints_whole(rt, &mut Turn::new(picture, k), expected(k));
+    }
+}
+
 #[test]
 fn grey_turns(rt: HostRuntime) {
-    for k in 0..10 {
-        let mut turn = Turn::new(pictures::grey(), k);
-        prints_whole(&rt, &mut turn, expected::grey(k));
-    }
+    prints_turned(&rt, pictures::grey(), |k| expected::grey(k));
 }
 
 #[test]
 fn bilevel_turns(rt: HostRuntime) {
-    for k in 0..10 {
-        let mut turn = Turn::new(pictures::lines(), k);
-        prints_whole(&rt, &mut turn, expected::lines(k));
-    }
+    prints_turned(&rt, pictures::lines(), |k| expected::lines(k));
 }
 
 #[test]
 fn rgb_turns(rt: HostRuntime) {
-    for k in 0..10 {
-        let mut turn = Turn::new(pictures::rgb(), k);
-        prints_whole(&rt, &mut turn, expected::rgb(k));
-    }
+    prints_turned(&rt, pictures::rgb(), |k| expected::rgb(k));
 }
 
 #[test]
 fn four_bit_turns(rt: HostRuntime) {
-    for k in 0..10 {
-        let mut turn = Turn::new(pictures::pale(), k);
-        prints_whole(&rt, &mut turn, expected::pale(k));
-    }
+    prints_turned(&rt, pictures::pale(), |k| expected::pale(k));
 }
 
 #[test]

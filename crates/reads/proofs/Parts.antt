@@ -1,16 +1,15 @@
 -- Laws of reads: within the bytes, and past their end.
-use Rattle.std.proofs.Common.{◌≡◌, ℕ, ◌+◌, ◌<◌, ◌≤◌, Bool, true, false, cond, ◌⊎◌, List, length, take, drop, Ok, Err, Result, sym, refl, ap, ◌∙◌, inl, inr, add-zero, arith}
-use Rattle.std.proofs.lemmas.List.{get_or-take, get_or-drop, get_or_past}
+use Rattle.std.proofs.Common.{◌≡◌, ℕ, zero, suc, ◌+◌, ◌<◌, ◌≤◌, Bool, true, false, cond, ◌⊎◌, List, length, take, drop, Ok, Err, Result, sym, refl, ap, ◌∙◌, inl, inr, add-zero, zero-mul, arith}
+use Rattle.std.proofs.lemmas.List.{get_or-take, get_or-drop, get_or_past, get_or-replicate}
 use Rattle.std.proofs.lemmas.Bool.{cond-true, cond-false, le-leb, lt-leb, leb-true, leb-false, cases_lt}
 use Rattle.octets.specs.declared.endian.Endian.{Endian}
-use Rattle.octets.specs.declared.endian.Endian.TheVariants.{Little, Big}
 use Rattle.octets.specs.Digits.{number, packed}
-use Rattle.octets.specs.Numbers.{short, long}
+use Rattle.octets.specs.Numbers.{word, short, long}
 use Rattle.octets.specs.Rows.{byte}
 use Rattle.octets.proofs.Digits.{number_same}
 use Rattle.faults.specs.declared.fault.Fault.{Fault}
 use Rattle.store.specs.Rules.{Answered, filled}
-use Rattle.reads.specs.Reads.{inside, zeros, part_or, part, short_at, long_at}
+use Rattle.reads.specs.Reads.{inside, zeros, part_or, part, word_at, short_at, long_at}
 
 pub part_or_inside : (old bs : List ℕ) (place n : ℕ) → place + n ≤ length bs → part_or old bs place n ≡ take n (drop place bs)
 unfolding part_or
@@ -26,13 +25,25 @@ part_inside bs place n h = part_or_inside (zeros n) bs place n h
 pub part_past : (bs : List ℕ) (place n : ℕ) → length bs < place + n → part bs place n ≡ zeros n
 part_past bs place n h = part_or_past (zeros n) bs place n h
 
+pub word_inside : (o : Endian) (bs : List ℕ) (place n : ℕ) → place + n ≤ length bs → word_at o bs place n ≡ word o bs place n
+word_inside o bs place n h = cond-true (inside bs place n) (word o bs place n) 0 (le-leb (place + n) (length bs) h)
+
 pub short_inside : (o : Endian) (bs : List ℕ) (place : ℕ) → place + 2 ≤ length bs → short_at o bs place ≡ short o bs place
 unfolding short_at
-short_inside o bs place h = cond-true (inside bs place 2) (short o bs place) 0 (le-leb (place + 2) (length bs) h)
+short_inside o bs place h = word_inside o bs place 2 h
 
 pub long_inside : (o : Endian) (bs : List ℕ) (place : ℕ) → place + 4 ≤ length bs → long_at o bs place ≡ long o bs place
 unfolding long_at
-long_inside o bs place h = cond-true (inside bs place 4) (long o bs place) 0 (le-leb (place + 4) (length bs) h)
+long_inside o bs place h = word_inside o bs place 4 h
+
+-- the instances for two and for four bytes
+pub short_is : (o : Endian) (bs : List ℕ) (place : ℕ) → word_at o bs place 2 ≡ short_at o bs place
+unfolding short_at
+short_is o bs place = refl
+
+pub long_is : (o : Endian) (bs : List ℕ) (place : ℕ) → word_at o bs place 4 ≡ long_at o bs place
+unfolding long_at
+long_is o bs place = refl
 
 -- byte i of a part
 pub part_byte : (bs : List ℕ) (place n i : ℕ) → place + n ≤ length bs → i < n → byte (part bs place n) i ≡ byte bs (place + i)
@@ -44,31 +55,22 @@ pub part_read : (r : Result (Unit {0}) Fault) (old bs : List ℕ) (place : ℕ) 
 part_read (Ok _) old bs place h = sym (part_or_inside old bs place (length old) h)
 part_read (Err _) old bs place h = sym (part_or_past old bs place (length old) h.0)
 
-number_zero_2 : (o : Endian) → number o 2 (byte (zeros 2)) ≡ 0
-unfolding number packed
-number_zero_2 Little = refl
-number_zero_2 Big = refl
+packed_zeros : (base n : ℕ) → packed base n (λ t. 0) ≡ 0
+unfolding packed
+packed_zeros base zero = refl
+packed_zeros base (suc n) = rw (packed_zeros base n, zero-mul)
 
-number_zero_4 : (o : Endian) → number o 4 (byte (zeros 4)) ≡ 0
-unfolding number packed
-number_zero_4 Little = refl
-number_zero_4 Big = refl
+number_zeros : (o : Endian) (n : ℕ) → number o n (byte (zeros n)) ≡ 0
+unfolding number
+number_zeros o n = number_same o n (byte (zeros n)) (λ t. 0) (λ t l. get_or-replicate n t 0 0 l) ∙ packed_zeros 256 n
 
--- the number in a part of two or of four bytes
-by_part : (o : Endian) (bs : List ℕ) (place n : ℕ) → number o n (byte (zeros n)) ≡ 0 → number o n (byte (part bs place n)) ≡ cond (inside bs place n) (number o n (λ i. byte bs (place + i))) 0
-by_part o bs place n z = by (inside bs place n) refl
+-- the number in a part
+pub word_part : (o : Endian) (bs : List ℕ) (place n : ℕ) → number o n (byte (part bs place n)) ≡ word_at o bs place n
+word_part o bs place n = by (inside bs place n) refl
   where
-    by : (b : Bool) → inside bs place n ≡ b → number o n (byte (part bs place n)) ≡ cond b (number o n (λ i. byte bs (place + i))) 0
+    by : (b : Bool) → inside bs place n ≡ b → number o n (byte (part bs place n)) ≡ cond b (word o bs place n) 0
     by true e = number_same o n (byte (part bs place n)) (λ i. byte bs (place + i)) (λ i l. part_byte bs place n i (leb-true (place + n) (length bs) e) l)
-    by false e = ap (λ xs. number o n (byte xs)) (part_past bs place n (leb-false (place + n) (length bs) e)) ∙ z
-
-pub short_part : (o : Endian) (bs : List ℕ) (place : ℕ) → number o 2 (byte (part bs place 2)) ≡ short_at o bs place
-unfolding short_at
-short_part o bs place = by_part o bs place 2 (number_zero_2 o)
-
-pub long_part : (o : Endian) (bs : List ℕ) (place : ℕ) → number o 4 (byte (part bs place 4)) ≡ long_at o bs place
-unfolding long_at
-long_part o bs place = by_part o bs place 4 (number_zero_4 o)
+    by false e = ap (λ xs. number o n (byte xs)) (part_past bs place n (leb-false (place + n) (length bs) e)) ∙ number_zeros o n
 
 -- the byte in a part of one
 pub byte_part : (bs : List ℕ) (place : ℕ) → byte (part bs place 1) 0 ≡ byte bs place

@@ -1,6 +1,6 @@
 -- What reads of bytes and numbers give, also past the end. Assumes nothing.
 use Rattle.std.specs.Prelude.{ℕ, ◌+◌, Bool, cond, List, length, take, drop, replicate, nat_le}
-use Rattle.octets.specs.Numbers.{short, long}
+use Rattle.octets.specs.Numbers.{word}
 use Rattle.octets.specs.declared.endian.Endian.{Endian}
 
 -- n bytes from a place on lie within the list
@@ -18,10 +18,14 @@ part_or old bs place n = cond (inside bs place n) (take n (drop place bs)) old
 abbrev pub part : List ℕ → ℕ → ℕ → List ℕ
 part bs place n = part_or (zeros n) bs place n
 
--- the number in the two bytes from a place on, or 0 if they do not both lie within the list
-unfoldable pub short_at : Endian → List ℕ → ℕ → ℕ
-short_at o bs place = cond (inside bs place 2) (short o bs place) 0
+-- the number in the n bytes from a place on, or 0 if they do not all lie within the list
+abbrev pub word_at : Endian → List ℕ → ℕ → ℕ → ℕ
+word_at o bs place n = cond (inside bs place n) (word o bs place n) 0
 
--- the number in the four bytes from a place on, or 0 if they do not all lie within the list
+-- the number in the two bytes from a place on
+unfoldable pub short_at : Endian → List ℕ → ℕ → ℕ
+short_at o bs place = word_at o bs place 2
+
+-- the number in the four bytes from a place on
 unfoldable pub long_at : Endian → List ℕ → ℕ → ℕ
-long_at o bs place = cond (inside bs place 4) (long o bs place) 0
+long_at o bs place = word_at o bs place 4

@@ -5,7 +5,7 @@ ghost use Rattle.relaying.specs.Tokens.{IsRested};
 
 use faults::fault::Fault;
 use holder::holder::Holder;
-use holder::token::{Begun, Rested, Switched, Token};
+use holder::token::{Begun, Rested, Ticket, Token};
 use plans::plan::Plan;
 use plans::view::View;
 use store::traits::Card;
@@ -15,13 +15,13 @@ use store::traits::Card;
 pub fn lay_out<C: Card>(holder: &mut Holder<C>, view: View, plan: Plan) -> Result<u64, Fault> {
     let (begun, sectors) = holder.begin(view, plan)?;
     let carried = carry_all(holder, begun, sectors)?;
-    let draft = Token::Rested(rest(holder, carried)?);
-    let switched = switch(holder, into_rested(draft))?;
+    let draft = Token::Rested(given_up(holder.rest(carried), holder)?);
+    let switched = given_up(holder.switch(into_rested(draft)), holder)?;
     holder.keep(switched)?;
     Ok(sectors)
 }
 
-// The draft, which has rested.
+// The draft, which has rested: asked of a token, so that a step left out is refused by a proof and not by a type alone.
 fn into_rested(draft: Token) -> Rested
     requires { IsRested draft }
 {
@@ -35,38 +35,22 @@ fn into_rested(draft: Token) -> Rested
 fn carry_all<C: Card>(holder: &mut Holder<C>, begun: Begun, sectors: u64) -> Result<Begun, Fault> {
     let mut draft = begun;
     for _ in 0..sectors {
-        draft = carry(holder, draft)?;
+        let (carried, _) = given_up(holder.carry(draft), holder)?;
+        draft = carried;
     }
     Ok(draft)
 }
 
-// Each step gives the draft up where the holder refuses it.
-fn carry<C: Card>(holder: &mut Holder<C>, draft: Begun) -> Result<Begun, Fault> {
-    match holder.carry(draft) {
-        Ok((draft, _)) => Ok(draft),
-        Err((draft, fault)) => {
-            let _ = holder.scrap(Token::Begun(draft));
-            Err(fault)
-        }
-    }
-}
-
-fn rest<C: Card>(holder: &mut Holder<C>, draft: Begun) -> Result<Rested, Fault> {
-    match holder.rest(draft) {
-        Ok(draft) => Ok(draft),
-        Err((draft, fault)) => {
-            let _ = holder.scrap(Token::Begun(draft));
-            Err(fault)
-        }
-    }
-}
-
-fn switch<C: Card>(holder: &mut Holder<C>, draft: Rested) -> Result<Switched, Fault> {
-    match holder.switch(draft) {
-        Ok(draft) => Ok(draft),
-        Err((draft, fault)) => {
-            let _ = holder.scrap(Token::Rested(draft));
-            Err(fault)
-        }
-    }
+// The result of a step, the draft given up where the holder refuses it.
+fn given_up<C: Card, T, S>(
+    res: Result<T, (Ticket<S>, Fault)>,
+    holder: &mut Holder<C>,
+) -> Result<T, Fault>
+where
+    Ticket<S>: Into<Token>,
+{
+    res.map_err(|(draft, fault)| {
+        let _ = holder.scrap(draft.into());
+        fault
+    })
 }

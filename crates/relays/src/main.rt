@@ -4,6 +4,7 @@
 use cli::commands::run;
 use cli::failed::Failed;
 
+// A stored run is a program of its own: the kit runs each program once, on its own arguments and files.
 fn main(rt: HostRuntime) -> Result<(), Failed> {
     run(&rt)
 }

@@ -1,8 +1,6 @@
 -- A page that holds the fields and the segments of a block passes every check.
-use Rattle.std.proofs.Common.{◌≡◌, ℕ, ◌%◌, ◌<◌, ◌≤◌, min, Bool, true, false, cond, not, ◌&&◌, eqb, ltb, leb, List, Ok, sym, refl, ap, ◌∙◌, ap₂, arith}
-use Rattle.std.proofs.lemmas.Bool.{eq-eqb, le-ltb, le-leb, and_from}
-use Rattle.std.proofs.lemmas.Bool.Decides.{nat_tests}
-use Rattle.faults.specs.declared.fault.Check.TheVariants.{Kind as KindCheck, Size, Tally}
+use Rattle.std.proofs.Common.{◌≡◌, ℕ, ◌≤◌, min, true, cond, not, ◌&&◌, eqb, ltb, List, Ok, sym, refl, ap, ◌∙◌, ap₂, subst, arith}
+use Rattle.faults.specs.declared.fault.Check.TheVariants.{Kind as KindCheck}
 use Rattle.faults.specs.Faults.{then}
 use Rattle.raster.specs.declared.grid.Kind.{Kind}
 use Rattle.raster.specs.declared.grid.Photometric.{Photometric}
@@ -16,12 +14,16 @@ use Rattle.pages.specs.declared.layout.Listing.{Listing}
 use Rattle.pages.specs.declared.layout.Sampling.{Sampling}
 use Rattle.pages.specs.declared.layout.Sides.{Sides}
 use Rattle.pages.specs.Geometry.{samples_of}
-use Rattle.pages.specs.Pages.{fault_in, tiled, offsets_tag, counts_tag, format_of, sampling_of, sides_of, values_of, page_side, tile_side, formatted, sampled, tile_cut, strip_cut, cut_of, tallied, layout_of, laid_out}
+use Rattle.pages.specs.Pages.{fault_in, segment_kind, format_of, sampling_of, sides_of, values_of, formatted, sampled, cut_of, tallied, layout_of, laid_out}
+use Rattle.pages.specs.declared.layout.SegmentKind.{SegmentKind}
+use Rattle.pages.specs.declared.layout.SegmentKind.TheVariants.{Strip, Tile}
+use Rattle.rules.specs.Rules.{PageSide, TileSide}
+use Rattle.rules.proofs.Deciding.{cut_ok, tally_ok}
 use Rattle.plans.specs.declared.outline.Outline.{Outline}
 use Rattle.plans.specs.Outlines.{Proper, segments_in, offsets_by, counts_by}
 use Rattle.plans.proofs.Outlines.{Side, tile_limits, segment_sides}
 use Rattle.blocks.proofs.Directory.{not_refused}
-use Rattle.roundtrip.proofs.Reading.{entries_by, HeldBy, fields_read, listing_read, tiled_read, rows_read, across_read, down_read}
+use Rattle.roundtrip.proofs.Reading.{entries_by, HeldBy, fields_read, listing_read, kind_read, rows_read, across_read, down_read}
 
 -- The kind.
 
@@ -43,20 +45,18 @@ kind_sampled d BlackIsZero b t = not_refused (not (allowed (kind_of BlackIsZero 
 kind_sampled d Rgb b t =
     not_refused (not (eqb b 8 && (eqb b 8 && eqb b 8))) (fault_in KindCheck d 262) (Ok (kind_of Rgb b)) (ap (λ x. not (x && (x && x))) t)
 
-page_side_lem : (v : ℕ) → 1 ≤ v → v ≤ 16384 → not (page_side v) ≡ false
-page_side_lem v a b = ap not (and_from (leb 1 v) (leb v 16384) (le-leb 1 v a) (le-leb v 16384 b))
+-- a side that is read as one of a page's or a tile's
+page_side : {s v : ℕ} → s ≡ v → 1 ≤ v → v ≤ 16384 → PageSide s
+page_side e a b = (omega (arith, e), omega (arith, e))
 
-tile_side_right : (v : ℕ) → Side v → not (tile_side v) ≡ false
-tile_side_right v s = ap not (and_from (leb 16 v && leb v 16384) (eqb (v % 16) 0) (and_from (leb 16 v) (leb v 16384) (le-leb 16 v s.least) (le-leb v 16384 s.most)) (eq-eqb (v % 16) 0 s.whole))
-
-not_zero : (v : ℕ) → 0 < v → eqb v 0 ≡ false
-not_zero v l = grind (arith, nat_tests)
+tile_side : {s v : ℕ} → s ≡ v → Side v → TileSide s
+tile_side e v = subst TileSide (sym e) (v.least, v.most, v.whole)
 
 module _ (q : Outline) (bs : List ℕ) (place start : ℕ) (proper : Proper q) (d : Directory) where
-  abbrev fields_at : Bool → Fields
+  abbrev fields_at : SegmentKind → Fields
   fields_at t = gathered (entries_by t q place start)
 
-  format_read : (t : Bool) → HeldBy t q bs place start → formatted d (format_of q.endian bs (fields_at t)) ≡ Ok 1
+  format_read : (t : SegmentKind) → HeldBy t q bs place start → formatted d (format_of q.endian bs (fields_at t)) ≡ Ok 1
   unfolding format_of formatted
   format_read t h =
       let r = fields_read q bs place start proper t h in
@@ -68,7 +68,7 @@ module _ (q : Outline) (bs : List ℕ) (place start : ℕ) (proper : Proper q) (
         orientation = nth_or q.endian bs 1 0 (r.orientation i);
       })
 
-  sampling_read : (t : Bool) → HeldBy t q bs place start → sampled d (sampling_of q.endian bs (fields_at t)) ≡ Ok q.kind
+  sampling_read : (t : SegmentKind) → HeldBy t q bs place start → sampled d (sampling_of q.endian bs (fields_at t)) ≡ Ok q.kind
   unfolding sampling_of
   sampling_read t h =
       let r = fields_read q bs place start proper t h in
@@ -83,55 +83,44 @@ module _ (q : Outline) (bs : List ℕ) (place start : ℕ) (proper : Proper q) (
       })
       ∙ kind_sampled d q.kind.photometric q.kind.bits proper.kind
 
-  cut_read : (t : Bool) → q.cut.tiled ≡ t → HeldBy t q bs place start → cut_of d t (sides_of q.endian bs (fields_at t)) ≡ Ok q.cut
-  unfolding cut_of sides_of strip_cut tile_cut
-  cut_read false e h =
-      let r = fields_read q bs place start proper false h in
-      let s : Sides = sides_of q.endian bs (fields_at false) in
-      let rows : nth_or q.endian bs (nth_or q.endian bs 0 0 (fields_at false).height) 0 (fields_at false).rows ≡ q.cut.high =
-      rows_read q bs place start proper (nth_or q.endian bs 0 0 (fields_at false).height) h in
+  cut_read : (t : SegmentKind) → q.cut.kind ≡ t → HeldBy t q bs place start → cut_of d t (sides_of q.endian bs (fields_at t)) ≡ Ok q.cut
+  unfolding sides_of
+  cut_read Strip e h =
+      let r = fields_read q bs place start proper Strip h in
+      let s : Sides = sides_of q.endian bs (fields_at Strip) in
+      let rows : s.rows ≡ q.cut.high = rows_read q bs place start proper (nth_or q.endian bs 0 0 (fields_at Strip).height) h in
       let high : min q.cut.high q.height ≡ q.cut.high = omega (arith, (proper.spanned e).1) in
-      not_refused (not (page_side s.width)) (fault_in Size d 256) _ (ap (λ v. not (page_side v)) r.width ∙ page_side_lem q.width proper.some_wide proper.wide)
-      ∙ not_refused (not (page_side s.height)) (fault_in Size d 257) _ (ap (λ v. not (page_side v)) r.height ∙ page_side_lem q.height proper.some_high proper.high)
-      ∙ not_refused (eqb s.rows 0) (fault_in Size d 278) _ (ap (λ v. eqb v 0) rows ∙ not_zero q.cut.high (segment_sides q proper).some_high)
+      cut_ok d Strip s record {
+        width = page_side r.width proper.some_wide proper.wide;
+        height = page_side r.height proper.some_high proper.high;
+        strips = λ _. omega (arith, rows, (segment_sides q proper).some_high);
+        tiles = λ z. absurd cc;
+      }
       ∙ (λ i. Ok (record {
-        tiled = sym e i;
+        kind = sym e i;
         wide = (r.width ∙ sym (proper.spanned e).0) i;
         high = (ap₂ min rows r.height ∙ high) i;
       }))
-  cut_read true e h =
-      let r = fields_read q bs place start proper true h in
-      let s : Sides = sides_of q.endian bs (fields_at true) in
-      let across : nth_or q.endian bs 0 0 (fields_at true).across ≡ q.cut.wide = across_read q bs place start proper h in
-      let down : nth_or q.endian bs 0 0 (fields_at true).down ≡ q.cut.high = down_read q bs place start proper h in
-      let sides = tile_limits q.cut.tiled q.cut.wide q.cut.high proper.limits e in
-      not_refused (not (page_side s.width)) (fault_in Size d 256) _ (ap (λ v. not (page_side v)) r.width ∙ page_side_lem q.width proper.some_wide proper.wide)
-      ∙ not_refused (not (page_side s.height)) (fault_in Size d 257) _ (ap (λ v. not (page_side v)) r.height ∙ page_side_lem q.height proper.some_high proper.high)
-      ∙ not_refused (not (tile_side s.across)) (fault_in Size d 322) _ (ap (λ v. not (tile_side v)) across ∙ tile_side_right q.cut.wide sides.0)
-      ∙ not_refused (not (tile_side s.down)) (fault_in Size d 323) _ (ap (λ v. not (tile_side v)) down ∙ tile_side_right q.cut.high sides.1)
-      ∙ (λ i. Ok (record { tiled = sym e i; wide = across i; high = down i }))
+  cut_read Tile e h =
+      let r = fields_read q bs place start proper Tile h in
+      let s : Sides = sides_of q.endian bs (fields_at Tile) in
+      let across : s.across ≡ q.cut.wide = across_read q bs place start proper h in
+      let down : s.down ≡ q.cut.high = down_read q bs place start proper h in
+      let sides = tile_limits q.cut.kind q.cut.wide q.cut.high proper.limits e in
+      cut_ok d Tile s record {
+        width = page_side r.width proper.some_wide proper.wide;
+        height = page_side r.height proper.some_high proper.high;
+        strips = λ z. absurd cc;
+        tiles = λ _. (tile_side across sides.0, tile_side down sides.1);
+      }
+      ∙ (λ i. Ok (record { kind = sym e i; wide = across i; high = down i }))
 
   -- the layout that is read, with this directory
-  abbrev layout_at : Bool → Layout
+  abbrev layout_at : SegmentKind → Layout
   layout_at t = layout_of d 1 (record { width = q.width; height = q.height; rows = 0; across = 0; down = 0 })
       (record { offsets = offsets_by t q place; counts = counts_by t q place }) 1 q.kind q.cut
 
-  offsets_count : (t : Bool) → (offsets_by t q place).count ≡ segments_in q
-  offsets_count false = refl
-  offsets_count true = refl
-
-  counts_count : (t : Bool) → (counts_by t q place).count ≡ segments_in q
-  counts_count false = refl
-  counts_count true = refl
-
-  tally_passes : (t : Bool) → segments_in q ≤ 1024 → tallied (layout_at t) ≡ Ok (layout_at t)
-  unfolding tallied
-  tally_passes t many =
-      not_refused (not (eqb (offsets_by t q place).count (segments_in q))) (fault_in Tally d (offsets_tag q.cut.tiled)) _ (ap not (eq-eqb _ (segments_in q) (offsets_count t)))
-      ∙ not_refused (not (eqb (counts_by t q place).count (segments_in q))) (fault_in Tally d (counts_tag q.cut.tiled)) _ (ap not (eq-eqb _ (segments_in q) (counts_count t)))
-      ∙ not_refused (ltb 1024 (segments_in q)) (fault_in Tally d (offsets_tag q.cut.tiled)) _ (le-ltb 1024 (segments_in q) many)
-
-  pub laid_out_lem : (t : Bool) → q.cut.tiled ≡ t → segments_in q ≤ 1024 → HeldBy t q bs place start
+  pub laid_out_lem : (t : SegmentKind) → q.cut.kind ≡ t → segments_in q ≤ 1024 → HeldBy t q bs place start
       → laid_out d 1 (fields_at t) (values_of q.endian bs (fields_at t)) ≡ Ok (layout_at t)
   unfolding laid_out sides_of
   laid_out_lem t e many h =
@@ -139,10 +128,10 @@ module _ (q : Outline) (bs : List ℕ) (place start : ℕ) (proper : Proper q) (
       let fs : Fields = fields_at t in
       let s : Sides = sides_of q.endian bs fs in
       let t1 : Listing = record { offsets = offsets_by t q place; counts = counts_by t q place } in
-      ap (λ x. then x (λ l. then (formatted d (format_of q.endian bs fs)) (λ orientation. then (sampled d (sampling_of q.endian bs fs)) (λ kind. then (cut_of d (tiled fs) s) (λ cut. tallied (layout_of d 1 s l orientation kind cut)))))) (listing_read q bs place start proper t d)
-      ∙ ap (λ x. then x (λ orientation. then (sampled d (sampling_of q.endian bs fs)) (λ kind. then (cut_of d (tiled fs) s) (λ cut. tallied (layout_of d 1 s t1 orientation kind cut))))) (format_read t h)
-      ∙ ap (λ x. then x (λ kind. then (cut_of d (tiled fs) s) (λ cut. tallied (layout_of d 1 s t1 1 kind cut)))) (sampling_read t h)
-      ∙ ap (λ x. then x (λ cut. tallied (layout_of d 1 s t1 1 q.kind cut))) (ap (λ b. cut_of d b s) (tiled_read q bs place start proper t) ∙ cut_read t e h)
+      ap (λ x. then x (λ l. then (formatted d (format_of q.endian bs fs)) (λ orientation. then (sampled d (sampling_of q.endian bs fs)) (λ kind. then (cut_of d (segment_kind fs) s) (λ cut. tallied (layout_of d 1 s l orientation kind cut)))))) (listing_read q bs place start proper t d)
+      ∙ ap (λ x. then x (λ orientation. then (sampled d (sampling_of q.endian bs fs)) (λ kind. then (cut_of d (segment_kind fs) s) (λ cut. tallied (layout_of d 1 s t1 orientation kind cut))))) (format_read t h)
+      ∙ ap (λ x. then x (λ kind. then (cut_of d (segment_kind fs) s) (λ cut. tallied (layout_of d 1 s t1 1 kind cut)))) (sampling_read t h)
+      ∙ ap (λ x. then x (λ cut. tallied (layout_of d 1 s t1 1 q.kind cut))) (ap (λ b. cut_of d b s) (kind_read q bs place start proper t) ∙ cut_read t e h)
       ∙ ap tallied (λ i. record {
         directory = d;
         directories = 1;
@@ -154,4 +143,4 @@ module _ (q : Outline) (bs : List ℕ) (place start : ℕ) (proper : Proper q) (
         offsets = offsets_by t q place;
         counts = counts_by t q place;
       })
-      ∙ tally_passes t many
+      ∙ tally_ok (layout_at t) record { offsets = refl; counts = refl; few = many }

@@ -14,7 +14,9 @@ use Rattle.entries.specs.Entries.{home_of}
 use Rattle.entries.specs.Fields.{gathered, number_at, nth_or, count_or}
 use Rattle.pages.specs.Geometry.{samples_of}
 use Rattle.entries.specs.declared.entry.Directory.{Directory}
-use Rattle.pages.specs.Pages.{tiled, complete, listing, tile_listing}
+use Rattle.pages.specs.Pages.{segment_kind, complete, listing, tile_listing}
+use Rattle.pages.specs.declared.layout.SegmentKind.{SegmentKind}
+use Rattle.pages.specs.declared.layout.SegmentKind.TheVariants.{Strip, Tile}
 use Rattle.plans.specs.declared.outline.Outline.{Outline}
 use Rattle.plans.specs.Outlines.{Proper, segments_in, segment_size, directory_size, offsets_by, counts_by}
 use Rattle.plans.specs.Blocks.{sample_bits, offsets_from, byte_counts, fields_by}
@@ -24,10 +26,10 @@ use Rattle.blocks.proofs.Directory.{laid, HeldAll}
 use Rattle.blocks.proofs.Fields.{kind_small, photometric_small, outer_bits, outer_table}
 
 -- the fields of strips or tiles that begin at `start`, in a directory at a place
-abbrev pub entries_by : Bool → Outline → ℕ → ℕ → List Entry
+abbrev pub entries_by : SegmentKind → Outline → ℕ → ℕ → List Entry
 entries_by t q place start = laid (place + 2) (place + directory_size (length (fields_by t q start))) (fields_by t q start)
 
-abbrev pub HeldBy : Bool → Outline → List ℕ → ℕ → ℕ → Type 0
+abbrev pub HeldBy : SegmentKind → Outline → List ℕ → ℕ → ℕ → Type 0
 HeldBy t q bs place start = HeldAll q.endian bs (place + 2) (place + directory_size (length (fields_by t q start))) (fields_by t q start)
 
 -- the values of a page's tags, but for the cut
@@ -66,9 +68,9 @@ module _ (q : Outline) (bs : List ℕ) (place start : ℕ) (proper : Proper q) w
       same a true x y e h = ap (λ t. cond t x 1) e ∙ h refl
       same a false x y e h = ap (λ t. cond t x 1) e
 
-  pub fields_read : (t : Bool) → HeldBy t q bs place start → Reads q bs (gathered (entries_by t q place start))
+  pub fields_read : (t : SegmentKind) → HeldBy t q bs place start → Reads q bs (gathered (entries_by t q place start))
   unfolding gathered laid
-  fields_read false h = record {
+  fields_read Strip h = record {
     width = one_long (place + 2 + 8) q.width (omega (arith, proper.wide)) h.0;
     height = one_long (place + 2 + 12 + 8) q.height (omega (arith, proper.high)) h.1.0;
     compression = one_short_lem (place + 2 + 12 + 12 + 12 + 8) 1 (omega arith) h.1.1.1.0;
@@ -80,7 +82,7 @@ module _ (q : Outline) (bs : List ℕ) (place start : ℕ) (proper : Proper q) w
     planes = refl;
     orientation = refl;
   }
-  fields_read true h = record {
+  fields_read Tile h = record {
     width = one_long (place + 2 + 8) q.width (omega (arith, proper.wide)) h.0;
     height = one_long (place + 2 + 12 + 8) q.height (omega (arith, proper.high)) h.1.0;
     compression = one_short_lem (place + 2 + 12 + 12 + 12 + 8) 1 (omega arith) h.1.1.1.0;
@@ -109,54 +111,54 @@ module _ (q : Outline) (bs : List ℕ) (place start : ℕ) (proper : Proper q) w
   abbrev table_outer : List ℕ → ℕ
   table_outer ns = cond (leb (4 * length ns) 4) 0 (4 * length ns)
 
-  strip_offsets : home_of (place + 2 + 12 + 12 + 12 + 12 + 12) (4 * length (offsets_from q start)) (first_outer (place + 150)) ≡ (offsets_by false q place).place
+  strip_offsets : home_of (place + 2 + 12 + 12 + 12 + 12 + 12) (4 * length (offsets_from q start)) (first_outer (place + 150)) ≡ (offsets_by Strip q place).place
   strip_offsets = home_same _ _ _ _ _ _ (omega arith) offsets_length (omega (arith, outer_bits q))
 
-  strip_counts : home_of (place + 2 + 12 + 12 + 12 + 12 + 12 + 12 + 12 + 12) (4 * length (byte_counts q)) (first_outer (place + 150) + table_outer (offsets_from q start) + 0 + 0) ≡ (counts_by false q place).place
+  strip_counts : home_of (place + 2 + 12 + 12 + 12 + 12 + 12 + 12 + 12 + 12) (4 * length (byte_counts q)) (first_outer (place + 150) + table_outer (offsets_from q start) + 0 + 0) ≡ (counts_by Strip q place).place
   strip_counts = home_same _ _ _ _ _ _ (omega arith) counts_length
       (omega (arith, outer_bits q, outer_table 273 (segments_in q) (λ k. start + k * segment_size q 0)))
 
-  tile_offsets : home_of (place + 2 + 12 + 12 + 12 + 12 + 12 + 12 + 12 + 12 + 12 + 12 + 12) (4 * length (offsets_from q start)) (first_outer (place + 162) + 0 + 8 + 8 + 0 + 0 + 0) ≡ (offsets_by true q place).place
+  tile_offsets : home_of (place + 2 + 12 + 12 + 12 + 12 + 12 + 12 + 12 + 12 + 12 + 12 + 12) (4 * length (offsets_from q start)) (first_outer (place + 162) + 0 + 8 + 8 + 0 + 0 + 0) ≡ (offsets_by Tile q place).place
   tile_offsets = home_same _ _ _ _ _ _ (omega arith) offsets_length (omega (arith, outer_bits q))
 
-  tile_counts : home_of (place + 2 + 12 + 12 + 12 + 12 + 12 + 12 + 12 + 12 + 12 + 12 + 12 + 12) (4 * length (byte_counts q)) (first_outer (place + 162) + 0 + 8 + 8 + 0 + 0 + 0 + table_outer (offsets_from q start)) ≡ (counts_by true q place).place
+  tile_counts : home_of (place + 2 + 12 + 12 + 12 + 12 + 12 + 12 + 12 + 12 + 12 + 12 + 12 + 12) (4 * length (byte_counts q)) (first_outer (place + 162) + 0 + 8 + 8 + 0 + 0 + 0 + table_outer (offsets_from q start)) ≡ (counts_by Tile q place).place
   tile_counts = home_same _ _ _ _ _ _ (omega arith) counts_length
       (omega (arith, outer_bits q, outer_table 324 (segments_in q) (λ k. start + k * segment_size q 0)))
 
-  pub offsets_held : (t : Bool) → HeldBy t q bs place start → Holds bs (offsets_by t q place).place (flat_map (number_bytes q.endian 4) (offsets_from q start))
-  offsets_held false h = holds_at bs _ _ (flat_map (number_bytes q.endian 4) (offsets_from q start)) strip_offsets h.1.1.1.1.1.0
-  offsets_held true h = holds_at bs _ _ (flat_map (number_bytes q.endian 4) (offsets_from q start)) tile_offsets h.1.1.1.1.1.1.1.1.1.1.1.0
+  pub offsets_held : (t : SegmentKind) → HeldBy t q bs place start → Holds bs (offsets_by t q place).place (flat_map (number_bytes q.endian 4) (offsets_from q start))
+  offsets_held Strip h = holds_at bs _ _ (flat_map (number_bytes q.endian 4) (offsets_from q start)) strip_offsets h.1.1.1.1.1.0
+  offsets_held Tile h = holds_at bs _ _ (flat_map (number_bytes q.endian 4) (offsets_from q start)) tile_offsets h.1.1.1.1.1.1.1.1.1.1.1.0
 
-  pub counts_held : (t : Bool) → HeldBy t q bs place start → Holds bs (counts_by t q place).place (flat_map (number_bytes q.endian 4) (byte_counts q))
-  counts_held false h = holds_at bs _ _ (flat_map (number_bytes q.endian 4) (byte_counts q)) strip_counts h.1.1.1.1.1.1.1.1.0
-  counts_held true h = holds_at bs _ _ (flat_map (number_bytes q.endian 4) (byte_counts q)) tile_counts h.1.1.1.1.1.1.1.1.1.1.1.1.0
+  pub counts_held : (t : SegmentKind) → HeldBy t q bs place start → Holds bs (counts_by t q place).place (flat_map (number_bytes q.endian 4) (byte_counts q))
+  counts_held Strip h = holds_at bs _ _ (flat_map (number_bytes q.endian 4) (byte_counts q)) strip_counts h.1.1.1.1.1.1.1.1.0
+  counts_held Tile h = holds_at bs _ _ (flat_map (number_bytes q.endian 4) (byte_counts q)) tile_counts h.1.1.1.1.1.1.1.1.1.1.1.1.0
 
   -- the page lacks no tag
-  pub listing_read : (t : Bool) (d : Directory) → complete d (gathered (entries_by t q place start)) ≡ Ok (record { offsets = offsets_by t q place; counts = counts_by t q place })
+  pub listing_read : (t : SegmentKind) (d : Directory) → complete d (gathered (entries_by t q place start)) ≡ Ok (record { offsets = offsets_by t q place; counts = counts_by t q place })
   unfolding gathered laid complete listing tile_listing
-  listing_read false d = λ i. Ok (record {
+  listing_read Strip d = λ i. Ok (record {
     offsets = record { form = Long; count = offsets_length i; place = strip_offsets i };
     counts = record { form = Long; count = counts_length i; place = strip_counts i };
   })
-  listing_read true d = λ i. Ok (record {
+  listing_read Tile d = λ i. Ok (record {
     offsets = record { form = Long; count = offsets_length i; place = tile_offsets i };
     counts = record { form = Long; count = counts_length i; place = tile_counts i };
   })
 
-  pub tiled_read : (t : Bool) → tiled (gathered (entries_by t q place start)) ≡ t
+  pub kind_read : (t : SegmentKind) → segment_kind (gathered (entries_by t q place start)) ≡ t
   unfolding gathered laid
-  tiled_read false = refl
-  tiled_read true = refl
+  kind_read Strip = refl
+  kind_read Tile = refl
 
   -- the sides of strips, and of tiles
-  pub rows_read : (d : ℕ) → HeldBy false q bs place start → nth_or q.endian bs d 0 (gathered (entries_by false q place start)).rows ≡ q.cut.high
+  pub rows_read : (d : ℕ) → HeldBy Strip q bs place start → nth_or q.endian bs d 0 (gathered (entries_by Strip q place start)).rows ≡ q.cut.high
   unfolding gathered laid
   rows_read d h = one_long (place + 2 + 12 + 12 + 12 + 12 + 12 + 12 + 12 + 8) q.cut.high (omega (arith, (segment_sides q proper).high)) h.1.1.1.1.1.1.1.0
 
-  pub across_read : HeldBy true q bs place start → nth_or q.endian bs 0 0 (gathered (entries_by true q place start)).across ≡ q.cut.wide
+  pub across_read : HeldBy Tile q bs place start → nth_or q.endian bs 0 0 (gathered (entries_by Tile q place start)).across ≡ q.cut.wide
   unfolding gathered laid
   across_read h = one_long (place + 2 + 12 + 12 + 12 + 12 + 12 + 12 + 12 + 12 + 12 + 8) q.cut.wide (omega (arith, (segment_sides q proper).wide)) h.1.1.1.1.1.1.1.1.1.0
 
-  pub down_read : HeldBy true q bs place start → nth_or q.endian bs 0 0 (gathered (entries_by true q place start)).down ≡ q.cut.high
+  pub down_read : HeldBy Tile q bs place start → nth_or q.endian bs 0 0 (gathered (entries_by Tile q place start)).down ≡ q.cut.high
   unfolding gathered laid
   down_read h = one_long (place + 2 + 12 + 12 + 12 + 12 + 12 + 12 + 12 + 12 + 12 + 12 + 8) q.cut.high (omega (arith, (segment_sides q proper).high)) h.1.1.1.1.1.1.1.1.1.1.0

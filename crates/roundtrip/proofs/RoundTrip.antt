@@ -1,5 +1,5 @@
 -- The round trip.
-use Rattle.std.proofs.Common.{◌≡◌, ℕ, ◌+◌, ◌*◌, ◌%◌, ◌<◌, ◌≤◌, Bool, ltb, List, [], ◌∷◌, ◌++◌, map, length, take, replicate, Ok, Err, sym, refl, ap, ◌∙◌, subst, ap₂, arith}
+use Rattle.std.proofs.Common.{◌≡◌, ℕ, ◌+◌, ◌*◌, ◌%◌, ◌<◌, ◌≤◌, ltb, List, [], ◌∷◌, ◌++◌, map, length, take, replicate, Ok, Err, sym, refl, ap, ◌∙◌, subst, ap₂, arith}
 use mathlib.Core.Path.{fun_ext}
 use Rattle.std.specs.List.{range_with_len}
 use Rattle.std.proofs.lemmas.List.{length-append, length-replicate}
@@ -16,10 +16,9 @@ use Rattle.raster.specs.Picture.{Picture, Sound, within, framed, levels}
 use Rattle.raster.specs.Views.{turn_by}
 use Rattle.raster.proofs.Frames.{turn_one}
 use Rattle.links.specs.declared.directories.Directories.{Directories}
-use Rattle.links.specs.Links.{magic, listed, placed, walked}
+use Rattle.links.specs.Links.{magic, listed, placed, places_of, walked}
 use Rattle.links.specs.Chain.{Stands}
-use Rattle.links.proofs.Accepted.{one_directory, accepted_page, accepted_no_page}
-use Rattle.links.proofs.Listing.{count_listed, endian_listed, place_listed}
+use Rattle.links.proofs.Accepted.{one_directory, page_placed, page_missing}
 use Rattle.entries.specs.declared.entry.Directory.{Directory}
 use Rattle.entries.specs.Entries.{entries_from, entries_of, scanned}
 use Rattle.entries.specs.Fields.{gathered, fielded}
@@ -30,6 +29,9 @@ use Rattle.pages.specs.Segments.{offset_of, filled}
 use Rattle.pages.specs.Opening.{page_of, page_at, opened}
 use Rattle.pages.specs.Extents.{segment_span, value_spans, extents, Covered}
 use Rattle.stored.specs.Pixels.{stored, picture_of, stored_pixel}
+use Rattle.pages.specs.declared.layout.SegmentKind.{SegmentKind}
+use Rattle.pages.specs.Tags.{are_tiles}
+use Rattle.plans.specs.declared.pieces.Pieces.{Pieces}
 use Rattle.plans.specs.declared.outline.Outline.{Outline}
 use Rattle.plans.specs.Outlines.{Proper, outline_of, segments_in, segment_size, entries_in, directory_size, head_size, block_size, block_layout}
 use Rattle.plans.specs.Directories.{Field, directory_bytes}
@@ -52,8 +54,8 @@ length_magic Big = refl
 
 module _ (q : Outline) (at : ℕ → ℕ → ℕ) (place : ℕ) (bs : List ℕ) (proper : Proper q) (many : segments_in q ≤ 1024)
     (aligned : place % 512 ≡ 0) (far : 512 ≤ place) (small : length bs < 2147483648) (here : Holds bs place (block q at place)) where
-  abbrev t : Bool
-  t = q.cut.tiled
+  abbrev t : SegmentKind
+  t = q.cut.kind
 
   abbrev start : ℕ
   start = place + head_size q
@@ -82,7 +84,7 @@ module _ (q : Outline) (at : ℕ → ℕ → ℕ) (place : ℕ) (bs : List ℕ) 
   good = good_fields t q start proper (some_segments q proper) many low sizes
 
   pub entries_few : (0 < entries_in q) × (entries_in q ≤ 64)
-  entries_few = cond_both q.cut.tiled 13 12 (λ n. (0 < n) × (n ≤ 64)) (λ _. (omega arith, omega arith)) (λ _. (omega arith, omega arith))
+  entries_few = cond_both (are_tiles q.cut.kind) 13 12 (λ n. (0 < n) × (n ≤ 64)) (λ _. (omega arith, omega arith)) (λ _. (omega arith, omega arith))
 
   said : Said q.endian bs place (fields_in q place)
   said = directory_held q.endian bs place (fields_in q place) good (omega arith) (omega (arith, count_fields t q start, entries_few.1)) directory_here
@@ -195,26 +197,25 @@ module _ (q : Outline) (at : ℕ → ℕ → ℕ) (place : ℕ) (bs : List ℕ) 
     pub file_opens : opened bs 0 ≡ Ok layout
     unfolding opened
     file_opens =
-        ap (λ r. then r (λ ds. then (placed ds 0) (λ p. page_at ds.endian bs ds.count 0 p))) chain_found
-        ∙ ap (λ r. then r (λ p. page_at found.endian bs found.count 0 p)) (accepted_page bs found chain_found 0 (omega (arith, count_listed q.endian (place ∷ []))))
-        ∙ (λ i. page_at (endian_listed q.endian (place ∷ []) i) bs (count_listed q.endian (place ∷ []) i) 0 (place_listed q.endian (place ∷ []) 0 (omega arith) i))
+        ap (λ r. then r (λ ds. then (placed ds 0) (λ p. page_at ds.endian bs (length (places_of ds)) 0 p))) chain_found
+        ∙ ap (λ r. then r (λ p. page_at found.endian bs 1 0 p)) (page_placed found 0 (omega arith))
         ∙ page_opens
 
     pub no_other : (k : ℕ) → 0 < k → opened bs k ≡ Err (bare Page)
     unfolding opened
     no_other k l =
-        ap (λ r. then r (λ ds. then (placed ds k) (λ p. page_at ds.endian bs ds.count k p))) chain_found
-        ∙ ap (λ r. then r (λ p. page_at found.endian bs found.count k p)) (accepted_no_page bs found chain_found k (omega (arith, count_listed q.endian (place ∷ []))))
+        ap (λ r. then r (λ ds. then (placed ds k) (λ p. page_at ds.endian bs (length (places_of ds)) k p))) chain_found
+        ∙ ap (λ r. then r (λ p. page_at found.endian bs 1 k p)) (page_missing found k l)
 
 -- a draft has a proper outline
-drafted_proper : (o : Endian) (tiled : Bool) (wide high : ℕ) (p : Picture) (place : ℕ) → Drafted tiled wide high p (outline_of o tiled wide high p) place → Proper (outline_of o tiled wide high p)
-drafted_proper o tiled wide high p place d = outline_proper o tiled wide high p d.limits d.sound d.some
+drafted_proper : (o : Endian) (ps : Pieces) (p : Picture) (place : ℕ) → Drafted ps p (outline_of o ps p) place → Proper (outline_of o ps p)
+drafted_proper o ps p place d = outline_proper o ps p d.limits d.sound d.some
 
 pub page_round_trip : PageRoundTrip
 unfolding block_layout
-page_round_trip o tiled wide high p place bs d small here =
-    let q : Outline = outline_of o tiled wide high p in
-    let proper = drafted_proper o tiled wide high p place d in
+page_round_trip o ps p place bs d small here =
+    let q : Outline = outline_of o ps p in
+    let proper = drafted_proper o ps p place d in
     let grid : stored bs (block_layout q place) ≡ p = grid_is q p.at place bs proper d.few d.aligned d.past small here p d.sound refl refl refl refl in
     record {
       page = page_opens q p.at place bs proper d.few d.aligned d.past small here;
@@ -225,29 +226,29 @@ page_round_trip o tiled wide high p place bs d small here =
 
 pub round_trip : RoundTrip
 unfolding block_layout
-round_trip o tiled wide high p place bs d small here head =
-    let q : Outline = outline_of o tiled wide high p in
-    let proper = drafted_proper o tiled wide high p place d in
+round_trip o ps p place bs d small here head =
+    let q : Outline = outline_of o ps p in
+    let proper = drafted_proper o ps p place d in
     let page : opened bs 0 ≡ Ok (block_layout q place) = file_opens q p.at place bs proper d.few d.aligned d.past small here head in
     record {
       chain = chain_found q p.at place bs proper d.few d.aligned d.past small here head;
       page = page;
       picture = ap (λ r. then r (λ l. Ok (record { picture = picture_of bs l; orientation = l.orientation }))) page
-          ∙ ap (λ x. Ok (record { picture = x; orientation = 1 })) (page_round_trip o tiled wide high p place bs d small here).picture;
+          ∙ ap (λ x. Ok (record { picture = x; orientation = 1 })) (page_round_trip o ps p place bs d small here).picture;
       others = no_other q p.at place bs proper d.few d.aligned d.past small here head;
     }
 
 pub smallest_file : FileOpens
-smallest_file o tiled wide high p d short =
-    let q : Outline = outline_of o tiled wide high p in
-    let file : List ℕ = file_of o tiled wide high p in
-    let here : List ℕ = block_of o tiled wide high p 512 in
+smallest_file o ps p d short =
+    let q : Outline = outline_of o ps p in
+    let file : List ℕ = file_of o ps p in
+    let here : List ℕ = block_of o ps p 512 in
     let rest : List ℕ = replicate 504 0 ++ here in
     let eight : length (header o 512) ≡ 8 = omega (arith, length-append (magic o) (number_bytes o 4 512), length_magic o) in
     let gap : length (replicate {A = ℕ} 504 0) ≡ 504 = length-replicate {A = ℕ} 504 0 in
-    let len : length (file_of o tiled wide high p) ≡ 512 + block_size (outline_of o tiled wide high p) =
-    omega (arith, length-append (header o 512) rest, length-append (replicate 504 0) here, length_block q p.at (drafted_proper o tiled wide high p 512 d) 512) in
+    let len : length (file_of o ps p) ≡ 512 + block_size (outline_of o ps p) =
+    omega (arith, length-append (header o 512) rest, length-append (replicate 504 0) here, length_block q p.at (drafted_proper o ps p 512 d) 512) in
     let after_head : Holds file 8 rest = holds_back file 0 8 (header o 512) rest (omega arith) (holds_self file) in
-    round_trip o tiled wide high p 512 file d (omega arith)
+    round_trip o ps p 512 file d (omega arith)
     (holds_back file 8 512 (replicate 504 0) here (omega arith) after_head)
     (holds_front file 0 (header o 512) rest (holds_self file))

@@ -1,7 +1,6 @@
 -- The segments of a page that holds a block: their offsets, and the pixels in them.
-use Rattle.std.proofs.Common.{◌≡◌, ℕ, zero, suc, ◌+◌, ◌-◌, ◌*◌, ◌/◌, ◌%◌, ◌^◌, ◌<◌, ◌≤◌, min, Bool, true, false, ltb, List, length, get_or, Ok, sym, refl, ap, ◌∙◌, subst, ap₂, mod-lt, div-add-mod', arith}
+use Rattle.std.proofs.Common.{◌≡◌, ℕ, zero, suc, ◌+◌, ◌-◌, ◌*◌, ◌/◌, ◌%◌, ◌^◌, ◌<◌, ◌≤◌, min, true, false, ltb, List, length, get_or, Ok, sym, refl, ap, ◌∙◌, subst, ap₂, mod-lt, div-add-mod', arith}
 use lib.Arith.{digits_lt, digits_div, digits_mod}
-use Rattle.std.specs.List.{flat_map}
 use Rattle.std.proofs.lemmas.Nat.{pow_pos}
 use Rattle.std.proofs.lemmas.List.FromFn.{length-map-range_with_len, get_or-map-range_with_len}
 use Rattle.std.proofs.lemmas.Bool.{lt-ltb, le-leb, cond-true, cond_both, and_from, eqb-true}
@@ -9,7 +8,6 @@ use Rattle.std.proofs.lemmas.Bool.Decides.{nat_tests}
 use Rattle.faults.specs.declared.fault.Check.TheVariants.{Segment}
 use Rattle.faults.specs.Faults.{fault, then}
 use Rattle.octets.specs.Digits.{digit}
-use Rattle.octets.specs.Numbers.{number_bytes}
 use Rattle.octets.specs.Rows.{byte, Holds, per_byte, packed_size, sample_in}
 use Rattle.octets.proofs.Digits.{packed_same, packed_digit}
 use Rattle.octets.proofs.Rows.{holds_chain, length_packed_row, sample_back, sample_within}
@@ -20,15 +18,17 @@ use Rattle.raster.specs.Picture.{allowed, levels, kind_of, within, framed}
 use Rattle.entries.specs.Fields.{number_at}
 use Rattle.pages.specs.declared.layout.Layout.{Layout}
 use Rattle.pages.specs.Geometry.{samples_of, across, segments, first_row, rows_of, row_bytes, needed}
-use Rattle.pages.specs.Pages.{offsets_tag}
 use Rattle.pages.specs.Segments.{offset_of, byte_count_of, lacking, segment_at, segments_from, filled}
 use Rattle.stored.specs.Pixels.{segment_of, pixel_in, stored_pixel}
 use Rattle.stored.specs.Sane.{allowed_bits}
 use Rattle.stored.specs.Soundness.{levels_samples}
+use Rattle.pages.specs.declared.layout.SegmentKind.{SegmentKind}
+use Rattle.pages.specs.Tags.{are_tiles, offsets_tag}
 use Rattle.plans.specs.declared.outline.Outline.{Outline}
 use Rattle.plans.specs.Outlines.{Proper, segments_in, segment_size, offsets_by, counts_by, block_layout}
 use Rattle.plans.specs.Blocks.{pixel_of, sample_of, row_of, segment, offsets_from, byte_counts}
-use Rattle.plans.proofs.Outlines.{segment_sides, div_below_ceil}
+use Rattle.pages.proofs.Cutting.{div_below_ceil}
+use Rattle.plans.proofs.Outlines.{segment_sides}
 use Rattle.blocks.proofs.Bytes.{digit_below}
 use Rattle.blocks.proofs.Directory.{not_refused}
 use Rattle.blocks.proofs.Numbers.{longs_read}
@@ -46,7 +46,7 @@ room BlackIsZero b t wide x l = let w = sample_within (wide * 1) (x * 1) (omega 
 room Rgb b t wide x l = subst (λ n. x * 3 / per_byte n + 3 ≤ packed_size n (wide * 3)) (sym (eqb-true b 8 t)) (omega arith)
 
 module _ (q : Outline) (at : ℕ → ℕ → ℕ) (bs : List ℕ) (place start : ℕ) (proper : Proper q)
-    (values : HeldBy q.cut.tiled q bs place start)
+    (values : HeldBy q.cut.kind q bs place start)
     (low : (k : ℕ) → k < segments_in q → start + k * segment_size q 0 < 4294967296)
     (small : (k : ℕ) → k < segments_in q → segment_size q k < 4294967296)
     (far : 8 ≤ start)
@@ -54,36 +54,28 @@ module _ (q : Outline) (at : ℕ → ℕ → ℕ) (bs : List ℕ) (place start :
   abbrev layout : Layout
   layout = block_layout q place
 
-  offset_by : (t : Bool) → HeldBy t q bs place start → (k : ℕ) → k < segments_in q → number_at q.endian bs (offsets_by t q place) k ≡ start + k * segment_size q 0
+  offset_by : (t : SegmentKind) → HeldBy t q bs place start → (k : ℕ) → k < segments_in q → number_at q.endian bs (offsets_by t q place) k ≡ start + k * segment_size q 0
   offset_by t h k l =
       let f : ℕ → ℕ = λ k. start + k * segment_size q 0 in
       let len : length (offsets_from q start) ≡ segments_in q = length-map-range_with_len f 0 (segments_in q) in
       let value : get_or (offsets_from q start) k 0 ≡ start + k * segment_size q 0 = get_or-map-range_with_len f 0 (segments_in q) k k 0 l (omega arith) in
-      read t (omega arith) (omega (arith, low k l)) (offsets_held q bs place start proper t h) ∙ value
-    where
-      read : (t : Bool) → k < length (offsets_from q start) → get_or (offsets_from q start) k 0 < 4294967296
-          → Holds bs (offsets_by t q place).place (flat_map (number_bytes q.endian 4) (offsets_from q start)) → number_at q.endian bs (offsets_by t q place) k ≡ get_or (offsets_from q start) k 0
-      read false w b h = longs_read q.endian bs (segments_in q) (offsets_by false q place).place (offsets_from q start) k w b h
-      read true w b h = longs_read q.endian bs (segments_in q) (offsets_by true q place).place (offsets_from q start) k w b h
+      longs_read q.endian bs (segments_in q) (offsets_by t q place).place (offsets_from q start) k (omega arith) (omega (arith, low k l)) (offsets_held q bs place start proper t h)
+      ∙ value
 
-  count_by : (t : Bool) → HeldBy t q bs place start → (k : ℕ) → k < segments_in q → number_at q.endian bs (counts_by t q place) k ≡ segment_size q k
+  count_by : (t : SegmentKind) → HeldBy t q bs place start → (k : ℕ) → k < segments_in q → number_at q.endian bs (counts_by t q place) k ≡ segment_size q k
   count_by t h k l =
       let len : length (byte_counts q) ≡ segments_in q = length-map-range_with_len (segment_size q) 0 (segments_in q) in
       let value : get_or (byte_counts q) k 0 ≡ segment_size q k = get_or-map-range_with_len (segment_size q) 0 (segments_in q) k k 0 l (omega arith) in
-      read t (omega arith) (omega (arith, small k l)) (counts_held q bs place start proper t h) ∙ value
-    where
-      read : (t : Bool) → k < length (byte_counts q) → get_or (byte_counts q) k 0 < 4294967296
-          → Holds bs (counts_by t q place).place (flat_map (number_bytes q.endian 4) (byte_counts q)) → number_at q.endian bs (counts_by t q place) k ≡ get_or (byte_counts q) k 0
-      read false w b h = longs_read q.endian bs (segments_in q) (counts_by false q place).place (byte_counts q) k w b h
-      read true w b h = longs_read q.endian bs (segments_in q) (counts_by true q place).place (byte_counts q) k w b h
+      longs_read q.endian bs (segments_in q) (counts_by t q place).place (byte_counts q) k (omega arith) (omega (arith, small k l)) (counts_held q bs place start proper t h)
+      ∙ value
 
   pub offset_read : (k : ℕ) → k < segments_in q → offset_of bs layout k ≡ start + k * segment_size q 0
   unfolding block_layout
-  offset_read k l = offset_by q.cut.tiled values k l
+  offset_read k l = offset_by q.cut.kind values k l
 
   count_read : (k : ℕ) → k < segments_in q → byte_count_of bs layout k ≡ segment_size q k
   unfolding block_layout
-  count_read k l = count_by q.cut.tiled values k l
+  count_read k l = count_by q.cut.kind values k l
 
   pub needed_is : (k : ℕ) → needed layout k ≡ segment_size q k
   unfolding needed block_layout
@@ -93,7 +85,7 @@ module _ (q : Outline) (at : ℕ → ℕ → ℕ) (bs : List ℕ) (place start :
   unfolding segment_at
   segment_passes k l =
       not_refused (lacking (length bs) (offset_of bs layout k) (byte_count_of bs layout k) (needed layout k))
-      (fault Segment layout.directory.page (offsets_tag layout.cut.tiled) (offset_of bs layout k)) (Ok tt)
+      (fault Segment layout.directory.page (offsets_tag layout.cut.kind) (offset_of bs layout k)) (Ok tt)
       (right_segment (offset_of bs layout k) (byte_count_of bs layout k) (needed layout k) (length bs)
       (omega (arith, offset_read k l))
       (omega (arith, count_read k l, needed_is k))
@@ -133,7 +125,7 @@ module _ (q : Outline) (at : ℕ → ℕ → ℕ) (bs : List ℕ) (place start :
     in_rows =
         let l : y % q.cut.high < q.cut.high = mod-lt y (segment_sides q proper).some_high in
         let e : first_row q.cut q.width here ≡ y / q.cut.high * q.cut.high = ap (λ r. r * q.cut.high) row_of_lem in
-        cond_both q.cut.tiled q.cut.high (min q.cut.high (q.height - first_row q.cut q.width here)) (λ n. y % q.cut.high < n)
+        cond_both (are_tiles q.cut.kind) q.cut.high (min q.cut.high (q.height - first_row q.cut q.width here)) (λ n. y % q.cut.high < n)
         (λ _. l)
         (λ _. rw e (omega (arith, div-add-mod' y q.cut.high)))
 

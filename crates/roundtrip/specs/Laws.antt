@@ -1,5 +1,5 @@
 -- What bytes that hold the block of a picture open as. Assumes nothing.
-use Rattle.std.specs.Prelude.{◌≡◌, ℕ, ◌+◌, ◌%◌, ◌^◌, ◌<◌, ◌≤◌, Bool, true, List, [], ◌∷◌, ◌++◌, length, replicate, Ok, Err}
+use Rattle.std.specs.Prelude.{◌≡◌, ℕ, ◌+◌, ◌%◌, ◌^◌, ◌<◌, ◌≤◌, true, List, [], ◌∷◌, ◌++◌, length, replicate, Ok, Err}
 use Rattle.faults.specs.declared.fault.Check.TheVariants.{Page}
 use Rattle.faults.specs.Faults.{bare}
 use Rattle.octets.specs.declared.endian.Endian.{Endian}
@@ -10,13 +10,14 @@ use Rattle.pages.specs.Opening.{page_at, opened}
 use Rattle.pages.specs.Extents.{extents, Covered}
 use Rattle.stored.specs.Pixels.{stored, picture_of, shown}
 use Rattle.plans.specs.declared.outline.Outline.{Outline}
+use Rattle.plans.specs.declared.pieces.Pieces.{Pieces}
 use Rattle.plans.specs.Limits.{limited}
 use Rattle.plans.specs.Outlines.{outline_of, segments_in, block_size, block_layout}
 use Rattle.plans.specs.Blocks.{block_of, header}
 
 -- a draft that is begun: a plan within its limits, a picture that is not empty, at most 1,024 segments, a place for it
-pub record Drafted (tiled : Bool) (wide high : ℕ) (p : Picture) (q : Outline) (place : ℕ) : Type 0 where
-  pub limits : limited tiled wide high ≡ true
+pub record Drafted (ps : Pieces) (p : Picture) (q : Outline) (place : ℕ) : Type 0 where
+  pub limits : limited ps ≡ true
   pub sound : Sound p
   pub some : 0 < p.width
   pub few : segments_in q ≤ 1024
@@ -39,24 +40,24 @@ pub record OpensAs (bs : List ℕ) (p : Picture) (q : Outline) (place : ℕ) : T
 
 -- bytes that hold the block of a picture have its page
 abbrev pub PageRoundTrip : Type 0
-PageRoundTrip = (o : Endian) (tiled : Bool) (wide high : ℕ) (p : Picture) (place : ℕ) (bs : List ℕ)
-    → Drafted tiled wide high p (outline_of o tiled wide high p) place → length bs < 2 ^ 31
-    → Holds bs place (block_of o tiled wide high p place)
-    → HasPicture bs p (outline_of o tiled wide high p) place
+PageRoundTrip = (o : Endian) (ps : Pieces) (p : Picture) (place : ℕ) (bs : List ℕ)
+    → Drafted ps p (outline_of o ps p) place → length bs < 2 ^ 31
+    → Holds bs place (block_of o ps p place)
+    → HasPicture bs p (outline_of o ps p) place
 
 -- with the header that links to it, they open as the picture
 abbrev pub RoundTrip : Type 0
-RoundTrip = (o : Endian) (tiled : Bool) (wide high : ℕ) (p : Picture) (place : ℕ) (bs : List ℕ)
-    → Drafted tiled wide high p (outline_of o tiled wide high p) place → length bs < 2 ^ 31
-    → Holds bs place (block_of o tiled wide high p place) → Holds bs 0 (header o place)
-    → OpensAs bs p (outline_of o tiled wide high p) place
+RoundTrip = (o : Endian) (ps : Pieces) (p : Picture) (place : ℕ) (bs : List ℕ)
+    → Drafted ps p (outline_of o ps p) place → length bs < 2 ^ 31
+    → Holds bs place (block_of o ps p place) → Holds bs 0 (header o place)
+    → OpensAs bs p (outline_of o ps p) place
 
 -- the smallest file of a picture: the header, 0 up to place 512, and the block there
-abbrev pub file_of : Endian → Bool → ℕ → ℕ → Picture → List ℕ
-file_of o tiled wide high p = header o 512 ++ (replicate 504 0 ++ block_of o tiled wide high p 512)
+abbrev pub file_of : Endian → Pieces → Picture → List ℕ
+file_of o ps p = header o 512 ++ (replicate 504 0 ++ block_of o ps p 512)
 
 -- it opens as the picture, if it is not too long
 abbrev pub FileOpens : Type 0
-FileOpens = (o : Endian) (tiled : Bool) (wide high : ℕ) (p : Picture)
-    → Drafted tiled wide high p (outline_of o tiled wide high p) 512 → 512 + block_size (outline_of o tiled wide high p) < 2 ^ 31
-    → OpensAs (file_of o tiled wide high p) p (outline_of o tiled wide high p) 512
+FileOpens = (o : Endian) (ps : Pieces) (p : Picture)
+    → Drafted ps p (outline_of o ps p) 512 → 512 + block_size (outline_of o ps p) < 2 ^ 31
+    → OpensAs (file_of o ps p) p (outline_of o ps p) 512

@@ -1,6 +1,6 @@
 -- The checks of format, kind, sides, tally and segments accept just what the rules allow.
-use Rattle.std.proofs.Common.{◌≡◌, ℕ, zero, suc, ◌+◌, ◌<◌, ◌≤◌, Bool, true, false, cond, not, ◌&&◌, ◌||◌, eqb, ltb, ◌⊎◌, List, length, Ok, Decides, Result, sym, refl, ap, ◌∙◌, subst, ⊎_elim, arith}
-use Rattle.std.proofs.lemmas.Bool.{true≢false, not-false, eqb-true, eqb-false, eq-eqb, ne_eqb, le-ltb, ltb-false, or_parts, or_from, or_left, or_right}
+use Rattle.std.proofs.Common.{◌≡◌, ℕ, zero, suc, ◌+◌, ◌<◌, ◌≤◌, true, false, cond, not, ◌&&◌, ◌||◌, eqb, ltb, ◌⊎◌, List, length, Ok, Decides, Result, sym, refl, ◌∙◌, subst, ⊎_elim, arith}
+use Rattle.std.proofs.lemmas.Bool.{not-false, eqb-true, eqb-false, eq-eqb, ne_eqb, le-ltb, ltb-false, or_parts, or_from, or_left, or_right}
 use Rattle.std.proofs.lemmas.Bool.Decides.{nat_tests, Decides-and, Decides-or, Decides-eqb, Decides-ltb, Decides-like}
 use Rattle.faults.specs.declared.fault.Check.TheVariants.{Kind as KindCheck, Size, Segment}
 use Rattle.faults.specs.declared.fault.Fault.{Fault}
@@ -14,8 +14,11 @@ use Rattle.pages.specs.declared.layout.Format.{Format}
 use Rattle.pages.specs.declared.layout.Layout.{Layout}
 use Rattle.pages.specs.declared.layout.Sampling.{Sampling}
 use Rattle.pages.specs.declared.layout.Sides.{Sides}
+use Rattle.pages.specs.declared.layout.SegmentKind.{SegmentKind}
+use Rattle.pages.specs.declared.layout.SegmentKind.TheVariants.{Strip, Tile}
+use Rattle.pages.specs.Tags.{are_tiles, offsets_tag}
 use Rattle.pages.specs.Geometry.{segments_of, needed}
-use Rattle.pages.specs.Pages.{fault_in, formatted, grey, rgb, interpreted, sampled, page_side, tile_side, tile_cut, strip_cut, cut_of, tallied, offsets_tag}
+use Rattle.pages.specs.Pages.{fault_in, formatted, grey, rgb, interpreted, sampled, page_side, tile_side, tile_cut, strip_cut, cut_of, tallied}
 use Rattle.pages.specs.Segments.{offset_of, byte_count_of, lacking, segment_at, segments_from, filled}
 use Rattle.pages.proofs.Stages.{tallied_was}
 use Rattle.rules.specs.Rules.{FormatRules, Grey, Rgb, KindRules, PageSide, TileSide, SideRules, cut_by, TallyRules, SegmentRules}
@@ -78,9 +81,9 @@ module _ (d : Directory) (s : Sampling) where
       let one : (eqb s.samples 1 || eqb s.samples 3) ≡ true =
       ⊎_elim (λ g. or_left (eqb s.samples 1) (eqb s.samples 3) (eq-eqb s.samples 1 g.samples))
       (λ g. or_right (eqb s.samples 1) (eqb s.samples 3) (eq-eqb s.samples 3 g.samples)) r.allowed in
-      ap (λ b. refused (not b) (fault_in KindCheck d 277) second) one
-      ∙ ap (λ b. refused (not b) (fault_in KindCheck d 258) third) (eq-eqb s.given s.samples r.given)
-      ∙ ap (λ b. refused (not b) (fault_in KindCheck d 262) (Ok kind_in)) ((decides_allowed s).1 r.allowed)
+      let two = eq-eqb s.given s.samples r.given in
+      let three = (decides_allowed s).1 r.allowed in
+      simp (one, two, three)
 
 -- the sides
 page_side_was : (n : ℕ) → page_side n ≡ true → PageSide n
@@ -95,64 +98,66 @@ tile_side_was n e = (grind (arith, nat_tests), grind (arith, nat_tests), grind (
 tile_side_ok : (n : ℕ) → TileSide n → tile_side n ≡ true
 tile_side_ok n h = grind (arith, nat_tests)
 
-tiles_was : (d : Directory) (s : Sides) (c : Cut) → tile_cut d s ≡ Ok c → TileSide s.across × TileSide s.down × (cut_by true s ≡ c)
+tiles_was : (d : Directory) (s : Sides) (c : Cut) → tile_cut d s ≡ Ok c → TileSide s.across × TileSide s.down × (cut_by Tile s ≡ c)
 unfolding tile_cut
 tiles_was d s c e =
-    let made : Result Cut Fault = Ok (cut_by true s) in
+    let made : Result Cut Fault = Ok (cut_by Tile s) in
     let a = passed (not (tile_side s.across)) (fault_in Size d 322) (refused (not (tile_side s.down)) (fault_in Size d 323) made) c e in
     let b = passed (not (tile_side s.down)) (fault_in Size d 323) made c a.1 in
-    let z : ◌≡◌ {A = Result Cut Fault} (Ok (cut_by true s)) (Ok c) = b.1 in
+    let z : ◌≡◌ {A = Result Cut Fault} (Ok (cut_by Tile s)) (Ok c) = b.1 in
     (tile_side_was s.across (not-false _ a.0), tile_side_was s.down (not-false _ b.0), cc)
 
-tiles_ok : (d : Directory) (s : Sides) → TileSide s.across → TileSide s.down → tile_cut d s ≡ Ok (cut_by true s)
+tiles_ok : (d : Directory) (s : Sides) → TileSide s.across → TileSide s.down → tile_cut d s ≡ Ok (cut_by Tile s)
 unfolding tile_cut
 tiles_ok d s a b =
-    ap (λ t. refused (not t) (fault_in Size d 322) (refused (not (tile_side s.down)) (fault_in Size d 323) (Ok (cut_by true s)))) (tile_side_ok s.across a)
-    ∙ ap (λ t. refused (not t) (fault_in Size d 323) (Ok (cut_by true s))) (tile_side_ok s.down b)
+    let x = tile_side_ok s.across a in
+    let y = tile_side_ok s.down b in
+    simp (x, y)
 
-strips_was : (d : Directory) (s : Sides) (c : Cut) → strip_cut d s ≡ Ok c → (1 ≤ s.rows) × (cut_by false s ≡ c)
+strips_was : (d : Directory) (s : Sides) (c : Cut) → strip_cut d s ≡ Ok c → (1 ≤ s.rows) × (cut_by Strip s ≡ c)
 unfolding strip_cut
 strips_was d s c e =
-    let a = passed (eqb s.rows 0) (fault_in Size d 278) (Ok (cut_by false s)) c e in
-    let z : ◌≡◌ {A = Result Cut Fault} (Ok (cut_by false s)) (Ok c) = a.1 in
+    let a = passed (eqb s.rows 0) (fault_in Size d 278) (Ok (cut_by Strip s)) c e in
+    let z : ◌≡◌ {A = Result Cut Fault} (Ok (cut_by Strip s)) (Ok c) = a.1 in
     let ne = eqb-false s.rows 0 a.0 in
     (omega arith, cc)
 
-strips_ok : (d : Directory) (s : Sides) → 1 ≤ s.rows → strip_cut d s ≡ Ok (cut_by false s)
+strips_ok : (d : Directory) (s : Sides) → 1 ≤ s.rows → strip_cut d s ≡ Ok (cut_by Strip s)
 unfolding strip_cut
-strips_ok d s h = ap (λ t. refused t (fault_in Size d 278) (Ok (cut_by false s))) (ne_eqb s.rows 0 (λ q. omega (arith, q)))
+strips_ok d s h = let x = ne_eqb s.rows 0 (λ q. omega (arith, q)) in simp x
 
-record Cutting (t : Bool) (s : Sides) (c : Cut) : Type 0 where
-  pub strips : t ≡ false → 1 ≤ s.rows
-  pub tiles : t ≡ true → TileSide s.across × TileSide s.down
-  pub is : cut_by t s ≡ c
+record Cutting (kind : SegmentKind) (s : Sides) (c : Cut) : Type 0 where
+  pub strips : kind ≡ Strip → 1 ≤ s.rows
+  pub tiles : kind ≡ Tile → TileSide s.across × TileSide s.down
+  pub is : cut_by kind s ≡ c
 
-cutting_was : (d : Directory) (t : Bool) (s : Sides) (c : Cut) → cond t (tile_cut d s) (strip_cut d s) ≡ Ok c → Cutting t s c
-cutting_was d true s c e = let a = tiles_was d s c e in record { strips = λ h. absurd (true≢false h); tiles = λ _. (a.0, a.1); is = a.2 }
-cutting_was d false s c e = let a = strips_was d s c e in record { strips = λ _. a.0; tiles = λ h. absurd (true≢false (sym h)); is = a.1 }
+cutting_was : (d : Directory) (kind : SegmentKind) (s : Sides) (c : Cut) → cond (are_tiles kind) (tile_cut d s) (strip_cut d s) ≡ Ok c → Cutting kind s c
+cutting_was d Tile s c e = let a = tiles_was d s c e in record { strips = λ h. absurd cc; tiles = λ _. (a.0, a.1); is = a.2 }
+cutting_was d Strip s c e = let a = strips_was d s c e in record { strips = λ _. a.0; tiles = λ h. absurd cc; is = a.1 }
 
-cutting_ok : (d : Directory) (t : Bool) (s : Sides) → SideRules t s → cond t (tile_cut d s) (strip_cut d s) ≡ Ok (cut_by t s)
-cutting_ok d true s r = let a = r.tiles refl in tiles_ok d s a.0 a.1
-cutting_ok d false s r = strips_ok d s (r.strips refl)
+cutting_ok : (d : Directory) (kind : SegmentKind) (s : Sides) → SideRules kind s → cond (are_tiles kind) (tile_cut d s) (strip_cut d s) ≡ Ok (cut_by kind s)
+cutting_ok d Tile s r = let a = r.tiles refl in tiles_ok d s a.0 a.1
+cutting_ok d Strip s r = strips_ok d s (r.strips refl)
 
-module _ (d : Directory) (t : Bool) (s : Sides) where
-  pub cut_was : (c : Cut) → cut_of d t s ≡ Ok c → SideRules t s × (cut_by t s ≡ c)
+module _ (d : Directory) (kind : SegmentKind) (s : Sides) where
+  pub cut_was : (c : Cut) → cut_of d kind s ≡ Ok c → SideRules kind s × (cut_by kind s ≡ c)
   unfolding cut_of
   cut_was c e =
-      let last : Result Cut Fault = cond t (tile_cut d s) (strip_cut d s) in
+      let last : Result Cut Fault = cond (are_tiles kind) (tile_cut d s) (strip_cut d s) in
       let a = passed (not (page_side s.width)) (fault_in Size d 256) (refused (not (page_side s.height)) (fault_in Size d 257) last) c e in
       let b = passed (not (page_side s.height)) (fault_in Size d 257) last c a.1 in
-      let k = cutting_was d t s c b.1 in (
+      let k = cutting_was d kind s c b.1 in (
         record { width = page_side_was s.width (not-false _ a.0); height = page_side_was s.height (not-false _ b.0); strips = k.strips; tiles = k.tiles },
         k.is,
       )
 
-  pub cut_ok : SideRules t s → cut_of d t s ≡ Ok (cut_by t s)
+  pub cut_ok : SideRules kind s → cut_of d kind s ≡ Ok (cut_by kind s)
   unfolding cut_of
   cut_ok r =
-      ap (λ b. refused (not b) (fault_in Size d 256) (refused (not (page_side s.height)) (fault_in Size d 257) (cond t (tile_cut d s) (strip_cut d s)))) (page_side_ok s.width r.width)
-      ∙ ap (λ b. refused (not b) (fault_in Size d 257) (cond t (tile_cut d s) (strip_cut d s))) (page_side_ok s.height r.height)
-      ∙ cutting_ok d t s r
+      let a = page_side_ok s.width r.width in
+      let b = page_side_ok s.height r.height in
+      let c = cutting_ok d kind s r in
+      simp (a, b, c)
 
 -- the tally
 pub tally_was : (m l : Layout) → tallied m ≡ Ok l → TallyRules m × (m ≡ l)
@@ -174,7 +179,7 @@ module _ (bs : List ℕ) (l : Layout) where
   unfolding segment_at
   segment_was k e =
       let o = offset_of bs l k in
-      let a = passed (lacking (length bs) o (byte_count_of bs l k) (needed l k)) (fault Segment l.directory.page (offsets_tag l.cut.tiled) o) (Ok tt) tt e in
+      let a = passed (lacking (length bs) o (byte_count_of bs l k) (needed l k)) (fault Segment l.directory.page (offsets_tag l.cut.kind) o) (Ok tt) tt e in
       let b = or_parts (ltb o 8) (ltb (byte_count_of bs l k) (needed l k) || ltb (length bs) (o + needed l k)) a.0 in
       let c = or_parts (ltb (byte_count_of bs l k) (needed l k)) (ltb (length bs) (o + needed l k)) b.1 in
       record { past = ltb-false o 8 b.0; counted = ltb-false (byte_count_of bs l k) (needed l k) c.0; within = ltb-false (length bs) (o + needed l k) c.1 }
@@ -186,7 +191,7 @@ module _ (bs : List ℕ) (l : Layout) where
       let n : lacking (length bs) o (byte_count_of bs l k) (needed l k) ≡ false =
       or_from (ltb o 8) (ltb (byte_count_of bs l k) (needed l k) || ltb (length bs) (o + needed l k)) (le-ltb o 8 r.past)
       (or_from (ltb (byte_count_of bs l k) (needed l k)) (ltb (length bs) (o + needed l k)) (le-ltb (byte_count_of bs l k) (needed l k) r.counted) (le-ltb (length bs) (o + needed l k) r.within)) in
-      ap (λ b. refused b (fault Segment l.directory.page (offsets_tag l.cut.tiled) o) (Ok tt)) n
+      simp n
 
   segments_was : (left k : ℕ) → segments_from left bs l k ≡ Ok tt → (j : ℕ) → j < left → SegmentRules bs l (k + j)
   unfolding segments_from

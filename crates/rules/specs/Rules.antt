@@ -1,5 +1,5 @@
 -- What a page of a file must be, in the words of the format and whatever the order of the checks. Assumes nothing.
-use Rattle.std.specs.Prelude.{◌≡◌, ℕ, ◌+◌, ◌%◌, ◌<◌, ◌≤◌, min, Bool, true, false, cond, ◌⊎◌, List, [], ◌∷◌, length, is_some, Some, Ok, Option, slice_index}
+use Rattle.std.specs.Prelude.{◌≡◌, ℕ, ◌+◌, ◌%◌, ◌<◌, ◌≤◌, min, true, cond, ◌⊎◌, List, [], ◌∷◌, length, is_some, Some, Ok, Option, slice_index}
 use Rattle.std.specs.List.{AllByRecursion}
 use Rattle.octets.specs.Rows.{Bits}
 use Rattle.octets.specs.declared.endian.Endian.{Endian}
@@ -18,9 +18,12 @@ use Rattle.pages.specs.declared.layout.Cut.{Cut}
 use Rattle.pages.specs.declared.layout.Format.{Format}
 use Rattle.pages.specs.declared.layout.Layout.{Layout}
 use Rattle.pages.specs.declared.layout.Sampling.{Sampling}
+use Rattle.pages.specs.declared.layout.SegmentKind.{SegmentKind}
+use Rattle.pages.specs.declared.layout.SegmentKind.TheVariants.{Strip, Tile}
 use Rattle.pages.specs.declared.layout.Sides.{Sides}
+use Rattle.pages.specs.Tags.{are_tiles}
 use Rattle.pages.specs.Geometry.{segments_of, needed}
-use Rattle.pages.specs.Pages.{tiled, format_of, sampling_of, sides_of, interpreted, layout_of}
+use Rattle.pages.specs.Pages.{tiled, segment_kind, format_of, sampling_of, sides_of, interpreted, layout_of}
 use Rattle.pages.specs.Segments.{offset_of, byte_count_of}
 use Rattle.pages.specs.Opening.{opened}
 
@@ -108,15 +111,19 @@ PageSide n = (1 ≤ n) × (n ≤ 16384)
 abbrev pub TileSide : ℕ → Type 0
 TileSide n = (16 ≤ n) × (n ≤ 16384) × (n % 16 ≡ 0)
 
-pub record SideRules (t : Bool) (s : Sides) : Type 0 where
+pub record SideRules (kind : SegmentKind) (s : Sides) : Type 0 where
   pub width : PageSide s.width
   pub height : PageSide s.height
-  pub strips : t ≡ false → 1 ≤ s.rows
-  pub tiles : t ≡ true → TileSide s.across × TileSide s.down
+  pub strips : kind ≡ Strip → 1 ≤ s.rows
+  pub tiles : kind ≡ Tile → TileSide s.across × TileSide s.down
 
 -- tiles of their sides, or strips as wide as the page and at most as high
-abbrev pub cut_by : Bool → Sides → Cut
-cut_by t s = record { tiled = t; wide = cond t s.across s.width; high = cond t s.down (min s.rows s.height) }
+abbrev pub cut_by : SegmentKind → Sides → Cut
+cut_by kind s = record {
+  kind = kind;
+  wide = cond (are_tiles kind) s.across s.width;
+  high = cond (are_tiles kind) s.down (min s.rows s.height);
+}
 
 -- one offset and one byte count a segment, and at most 1,024
 pub record TallyRules (l : Layout) : Type 0 where
@@ -148,7 +155,7 @@ abbrev pub layout_in : List ℕ → ℕ → Directory → Numbers → Numbers �
 layout_in bs directories d offsets counts =
     layout_of d directories (sides_in bs d) record { offsets = offsets; counts = counts } (format_in bs d).orientation
     (kind_of (interpreted (sampling_in bs d).photometric) (sampling_in bs d).first)
-    (cut_by (tiled (fields_in bs d)) (sides_in bs d))
+    (cut_by (segment_kind (fields_in bs d)) (sides_in bs d))
 
 -- a directory is that of a page
 pub record PageRules (bs : List ℕ) (directories : ℕ) (d : Directory) : Type 0 where
@@ -162,7 +169,7 @@ pub record PageRules (bs : List ℕ) (directories : ℕ) (d : Directory) : Type 
   -- the format, the kind and the sides are allowed
   pub format : FormatRules (format_in bs d)
   pub kind : KindRules (sampling_in bs d)
-  pub sides : SideRules (tiled (fields_in bs d)) (sides_in bs d)
+  pub sides : SideRules (segment_kind (fields_in bs d)) (sides_in bs d)
   -- every segment is listed and lies within the file
   pub tally : TallyRules (layout_in bs directories d offsets counts)
   pub segments : (k : ℕ) → k < segments_of (layout_in bs directories d offsets counts) → SegmentRules bs (layout_in bs directories d offsets counts) k

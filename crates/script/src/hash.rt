@@ -14,12 +14,9 @@ fn mix(hash: u64, byte: u8) -> u64
 }
 
 // The hash of some bytes.
+#[tactic(auto, unfolding(crate::specs::Hash::hashed))]
 pub fn fnv(bytes: &[u8]) -> u64
     ensures { result ≡ hashed bytes.now }
 {
-    let mut hash = BASIS;
-    for byte in bytes {
-        hash = mix(hash, *byte);
-    }
-    hash
+    bytes.iter().fold(BASIS, |hash, byte| mix(hash, *byte))
 }

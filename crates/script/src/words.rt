@@ -1,65 +1,67 @@
-// The words of a line.
-use std::alloc::{AllocError, Global};
+// Words of a line.
+ghost use Rattle.std.specs.Prelude.{◌≡◌, [], ◌∷◌, IfErr, OkIff};
+ghost use Rattle.std.specs.Str.Parse.{ParsesUnsigned};
+ghost use Rattle.script.specs.Words.{Numbers, area_named};
+ghost use Rattle.script.specs.declared.words.Wrong.TheVariants.{Number};
+
+use raster::grid::Area;
+use std::alloc::AllocError;
+use std::fmt;
 
 // What is wrong with a line.
 #[derive(Clone, Copy, PartialEq, Eq, Debug)]
-pub enum Wrong {
+pub enum Wrong<'a> {
     // There was no memory for its words.
     Memory,
     // The first word is no call.
     Call,
     // There are too few or too many words.
     Count,
-    // A word is no number that fits 32 bits.
-    Number,
+    // This word is no number that fits 32 bits.
+    Number(&'a str),
     // A word is neither of the two that may stand there.
     Choice,
 }
 
-impl From<AllocError> for Wrong {
-    fn from(_e: AllocError) -> Wrong {
+impl fmt::Display for Wrong<'_> {
+    fn fmt<W: fmt::Write>(&self, f: &mut fmt::Formatter<W>) -> fmt::Result {
+        f.write_str(match self {
+            Wrong::Memory => "there is not enough memory",
+            Wrong::Call => "there is no such call",
+            Wrong::Count => "it has too few or too many words",
+            Wrong::Number(_) => "a word is no number that fits 32 bits",
+            Wrong::Choice => "a word is none of those that may stand there",
+        })
+    }
+}
+
+impl<'a> From<AllocError> for Wrong<'a> {
+    fn from(_e: AllocError) -> Wrong<'a> {
         Wrong::Memory
     }
 }
 
-#[derive(Drop)]
-pub struct Words<'a> {
-    list: Vec<&'a str>,
+// The number that a word stands for.
+pub fn number<'a>(word: &'a str) -> Result<u32, Wrong<'a>>
+    ensures value { ParsesUnsigned 32 10 word.now result }
+    ensures wrong { IfErr result (λ wrong. wrong ≡ Number word.exit) }
+{
+    word.parse::<u32>().map_err(|_| Wrong::Number(word))
 }
 
-impl<'a> Words<'a> {
-    pub fn new(heap: Global, line: &'a str) -> Result<Words<'a>, AllocError> {
-        Ok(Words {
-            list: line.split_whitespace().collect(heap)?,
-        })
-    }
-
-    pub fn count(&self) -> usize {
-        self.list.len()
-    }
-
-    // Word i, empty where there is none.
-    pub fn word(&self, i: usize) -> &'a str {
-        match self.list.get(i) {
-            Some(word) => *word,
-            None => "",
-        }
-    }
-
-    // Word i as a number.
-    pub fn number(&self, i: usize) -> Result<u32, Wrong> {
-        match self.word(i).parse::<u32>() {
-            Ok(n) => Ok(n),
-            Err(_) => Err(Wrong::Number),
-        }
-    }
-
-    // A line of so many words, and no other.
-    pub fn exactly(&self, count: usize) -> Result<(), Wrong> {
-        if self.count() == count {
-            Ok(())
-        } else {
-            Err(Wrong::Count)
-        }
-    }
+// The rectangle that four words name.
+pub fn area_of<'a>(
+    x: &'a str,
+    y: &'a str,
+    width: &'a str,
+    height: &'a str,
+) -> Result<Area, Wrong<'a>>
+    ensures { OkIff result (Numbers (x.now ∷ y.now ∷ width.now ∷ height.now ∷ [])) (area_named x.now y.now width.now height.now) }
+{
+    Ok(Area {
+        x: number(x)?,
+        y: number(y)?,
+        width: number(width)?,
+        height: number(height)?,
+    })
 }

@@ -32,10 +32,7 @@ impl Grid for Sheet<'_> {
         if shows(self.size, self.kind) {
             self.size
         } else {
-            Size {
-                width: 0,
-                height: 0,
-            }
+            Size::EMPTY
         }
     }
 
@@ -43,10 +40,7 @@ impl Grid for Sheet<'_> {
         if shows(self.size, self.kind) {
             self.kind
         } else {
-            Kind {
-                photometric: Photometric::BlackIsZero,
-                bits: 1,
-            }
+            Kind::EMPTY
         }
     }
 
@@ -63,20 +57,12 @@ impl Grid for Sheet<'_> {
 fn shows(size: Size, kind: Kind) -> bool
     ensures { result ≡ (sized size && allowed kind) }
 {
-    size.width > 0
-        && size.width <= 16384
-        && size.height > 0
-        && size.height <= 16384
-        && kind.is_allowed()
+    (1..=16384).contains(&size.width) && (1..=16384).contains(&size.height) && kind.is_allowed()
 }
 
 // The number at a place, 0 past the last.
 fn number_at(pixels: &[u32], place: usize) -> u32
     ensures { result ≡ slice_index pixels.now place }
 {
-    if place < pixels.len() {
-        pixels[place]
-    } else {
-        0
-    }
+    pixels.get(place).copied().unwrap_or(0)
 }

@@ -3,8 +3,9 @@ use Rattle.std.proofs.Common.{◌≡◌, ℕ, ◌+◌, ◌-◌, ◌^◌, ◌≤�
 use Rattle.std.proofs.lemmas.List.{drop-take, take-take}
 use Rattle.octets.proofs.Patches.{take_patched, sector_untouched}
 use Rattle.octets.specs.Sectors.{patched}
+use Rattle.store.proofs.Changes.{same_lists}
 use Rattle.store.specs.Lent.{counted, alone}
-use Rattle.store.specs.Rules.{NoGain, Gain, Gained, Answered, written}
+use Rattle.store.specs.Rules.{Gain, Gained, Answered, written}
 use Rattle.faults.specs.declared.fault.Fault.{Fault}
 
 pub length_counted : (xs : List ℕ) → length (counted xs) ≡ min (2 ^ 31 - 1) (length xs)
@@ -25,9 +26,6 @@ pub counted_patched : (xs : List ℕ) (place : ℕ) (ys : List ℕ) → place + 
 unfolding counted
 counted_patched xs place ys h = take_patched (2 ^ 31 - 1) xs place ys h
 
-pub alone_same : (xs : List ℕ) → NoGain (alone xs) (alone xs)
-alone_same xs = record { none = λ s c h. h }
-
 -- what a write does to the lists where each holds the seen content alone
 pub alone_gain : (xs : List ℕ) (place : ℕ) (ys : List ℕ) → place + length ys ≤ length xs → Gain (patched xs place ys) place (length ys) (alone xs) (alone (patched xs place ys))
 alone_gain xs place ys h = record {
@@ -43,4 +41,4 @@ lent_put (Err _) xs xs' place ys h e = ap counted e
 pub lent_gain : (r : Result (Unit {0}) Fault) (xs xs' : List ℕ) (place : ℕ) (ys : List ℕ) → Answered r (counted xs) place (length ys) → xs' ≡ written r xs place ys
     → Gained r (counted xs') place (length ys) (alone (counted xs)) (alone (counted xs'))
 lent_gain (Ok _) xs xs' place ys h e = rw (e, counted_patched xs place ys h) (alone_gain (counted xs) place ys h)
-lent_gain (Err _) xs xs' place ys h e = rw e (alone_same (counted xs))
+lent_gain (Err _) xs xs' place ys h e = rw e (same_lists (alone (counted xs)))

@@ -1,3 +1,4 @@
 pub mod Lent
 pub mod Changes
 pub mod Power
+pub mod Looks

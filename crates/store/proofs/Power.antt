@@ -75,10 +75,6 @@ echoed_after (Ok _) seen seen₁ seen₂ place given buffer got h e s n a f =
 echoed_after (Err _) seen seen₁ seen₂ place given buffer got h e s n a f =
     absurd (let l = ap length e ∙ length_patched seen place given h in let b = a.0 in omega arith)
 
--- the first of the two calls is refused
-pub echoed_refused : (r : Result (Unit {0}) Fault) (y : Fault) (seen seen' : List ℕ) (place : ℕ) (given buffer : List ℕ) → r ≡ Err y → seen' ≡ seen → Echoed r seen seen' place given buffer buffer
-echoed_refused r y seen seen' place given buffer e s = subst (λ (z : Result (Unit {0}) Fault). Echoed z seen seen' place given buffer buffer) (sym e) (s, refl)
-
 -- a read after a write
 pub found_then : (seen seen₁ seen₂ : List ℕ) (may may₁ may₂ : Lists) (place : ℕ) (given : List ℕ) → seen₂ ≡ seen₁ → NoGain may₁ may₂ → FoundOfWrite seen seen₁ may may₁ place given
     → FoundOfWrite seen seen₂ may may₂ place given

@@ -2,3 +2,4 @@ pub mod Rules
 pub mod Lent
 pub mod Power
 pub mod Promises
+pub mod Looking

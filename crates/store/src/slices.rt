@@ -6,6 +6,7 @@ ghost use Rattle.store.specs.Lent.{counted, alone, lent_laws};
 
 use super::traits::{Card, Store};
 use faults::fault::{Check, Fault};
+use std::convert::AsSlice;
 
 const LONGEST: u32 = 0x7fff_ffff;
 
@@ -13,11 +14,7 @@ const LONGEST: u32 = 0x7fff_ffff;
 fn counted_len(len: usize) -> u32
     ensures { result ≡ min len (2 ^ 31 - 1) }
 {
-    if len < LONGEST as usize {
-        len as u32
-    } else {
-        LONGEST
-    }
+    len.min(LONGEST as usize) as u32
 }
 
 // Whether `count` bytes from `place` on lie within `len`.
@@ -55,73 +52,47 @@ fn write_bytes(target: &mut [u8], place: u32, bytes: &[u8]) -> Result<(), Fault>
     Ok(())
 }
 
+// A store over bytes that `B` lends.
+#[derive(Clone, Copy, Drop)]
+pub struct Lent<B>(B);
+
 // A store over bytes lent for reading.
-#[derive(Clone, Copy)]
-pub struct Chip<'a>(&'a [u8]);
+pub type Chip<'a> = Lent<&'a [u8]>;
+
+// A card over bytes lent for writing.
+pub type Memory<'a> = Lent<&'a mut [u8]>;
 
 impl<'a> Chip<'a> {
     pub fn new(bytes: &'a [u8]) -> Self
         ensures { result.0.now ≡ bytes.now }
     {
-        Chip(bytes)
+        Lent(bytes)
     }
 }
-
-impl Store for Chip<'_> {
-    ghost seen = { λ c. counted c.0.now };
-
-    ghost may = { λ c. alone (counted c.0.now) };
-
-    ghost trail = { λ c. alone (counted c.0.now) };
-
-    ghost laws = { lent_laws (λ c. c.0.now) };
-
-    fn length(&self) -> u32 {
-        counted_len(self.0.len())
-    }
-
-    fn read(&mut self, place: u32, buffer: &mut [u8]) -> Result<(), Fault> {
-        read_bytes(self.0, place, buffer)
-    }
-
-    fn settle(&mut self) {}
-}
-
-// A card over bytes lent for writing.
-#[derive(Drop)]
-pub struct Memory<'a>(&'a mut [u8]);
 
 impl<'a> Memory<'a> {
-    pub fn new(bytes: &'a mut [u8]) -> Self
-        ensures { result.0.now ≡ bytes.old }
+    pub fn new(target: &'a mut [u8]) -> Self
+        ensures { result.0.now ≡ target.old }
     {
-        Memory(bytes)
-    }
-
-    // What `read` does, which leaves the bytes alone.
-    fn fetch(&self, place: u32, buffer: &mut [u8]) -> Result<(), Fault>
-        ensures answer { Answered result (counted self.now.0.now) place (length buffer.old) }
-        ensures got { buffer.new ≡ filled result (counted self.now.0.now) place buffer.old }
-    {
-        read_bytes(self.0, place, buffer)
+        Lent(target)
     }
 }
 
-impl Store for Memory<'_> {
-    ghost seen = { λ c. counted c.0.now };
+impl<B: AsSlice<u8>> Store for Lent<B> {
+    ghost seen = { λ c. counted (B.items c.0) };
 
-    ghost may = { λ c. alone (counted c.0.now) };
+    ghost may = { λ c. alone (counted (B.items c.0)) };
 
-    ghost trail = { λ c. alone (counted c.0.now) };
+    ghost trail = { λ c. alone (counted (B.items c.0)) };
 
-    ghost laws = { lent_laws (λ c. c.0.now) };
+    ghost laws = { lent_laws (λ c. B.items c.0) };
 
     fn length(&self) -> u32 {
-        counted_len(self.0.len())
+        counted_len(self.0.as_slice().len())
     }
 
     fn read(&mut self, place: u32, buffer: &mut [u8]) -> Result<(), Fault> {
-        self.fetch(place, buffer)
+        read_bytes(self.0.as_slice(), place, buffer)
     }
 
     fn settle(&mut self) {}

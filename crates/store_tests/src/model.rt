@@ -13,33 +13,12 @@ pub fn next(random: u32) -> u32 {
 
 // Whether every byte is this one.
 pub fn all(bytes: &[u8], byte: u8) -> bool {
-    for b in bytes {
-        if *b != byte {
-            return false;
-        }
-    }
-    true
+    bytes.iter().all(|b| *b == byte)
 }
 
-// Whether the two hold the same bytes.
-pub fn same(left: &[u8], right: &[u8]) -> bool {
-    left == right
-}
-
-// Whether `answer` is Ok where the call is to be accepted, and else the one refusal.
-fn answered(answer: Result<(), Fault>, accepted: bool) -> bool {
-    match answer {
-        Ok(()) => accepted,
-        Err(fault) => !accepted && fault == Check::Past.fault(),
-    }
-}
-
-// Whether the answer is that of a buffer of another length.
-fn refused_small(answer: Result<(), Fault>) -> bool {
-    match answer {
-        Ok(()) => false,
-        Err(fault) => fault == Check::Small.fault(),
-    }
+// Whether the answer is this refusal.
+fn refused(answer: Result<(), Fault>, refusal: Fault) -> bool {
+    answer.is_err_and(|fault| fault == refusal)
 }
 
 // Whether a read answers as the model does, in every byte of the buffer.
@@ -48,10 +27,10 @@ pub fn reads<S: Store>(store: &mut S, model: &[u8], place: u32, buffer: &mut [u8
     let count = buffer.len();
     let answer = store.read(place, buffer);
     if count > model.len() || place as usize > model.len() - count {
-        return answered(answer, false) && all(buffer, BEFORE);
+        return refused(answer, Check::Past.fault()) && all(buffer, BEFORE);
     }
     let from = place as usize;
-    answered(answer, true) && same(buffer, &model[from..from + count])
+    answer.is_ok() && &*buffer == &model[from..from + count]
 }
 
 // Whether a write is answered as the model answers it, which then holds the bytes.
@@ -59,11 +38,11 @@ pub fn writes<C: Card>(card: &mut C, model: &mut [u8], place: u32, bytes: &[u8])
     let count = bytes.len();
     let answer = card.write(place, bytes);
     if count > model.len() || place as usize > model.len() - count {
-        return answered(answer, false);
+        return refused(answer, Check::Past.fault());
     }
     let from = place as usize;
     model[from..from + count].copy_from_slice(bytes);
-    answered(answer, true)
+    answer.is_ok()
 }
 
 // The same for a write that is read back at once, into a buffer that has to be as long.
@@ -78,14 +57,14 @@ fn echoes<C: Card>(
     let count = bytes.len();
     let answer = write_then_read(card, place, bytes, buffer);
     if buffer.len() != count {
-        return refused_small(answer) && all(buffer, BEFORE);
+        return refused(answer, Check::Small.fault()) && all(buffer, BEFORE);
     }
     if count > model.len() || place as usize > model.len() - count {
-        return answered(answer, false) && all(buffer, BEFORE);
+        return refused(answer, Check::Past.fault()) && all(buffer, BEFORE);
     }
     let from = place as usize;
     model[from..from + count].copy_from_slice(bytes);
-    answered(answer, true) && same(buffer, bytes)
+    answer.is_ok() && &*buffer == bytes
 }
 
 // That at a few places, with buffers as long, shorter and longer.
@@ -104,9 +83,9 @@ pub fn all_echo<C: Card>(card: &mut C, model: &mut [u8]) -> bool {
 // Fills the buffer with numbers of the generator.
 pub fn scatter(buffer: &mut [u8], random: u32) {
     let mut number = random;
-    for i in 0..buffer.len() {
+    for byte in buffer.iter_mut() {
         number = next(number);
-        buffer[i] = (number >> 24) as u8;
+        *byte = (number >> 24) as u8;
     }
 }
 
@@ -190,7 +169,7 @@ pub fn lies_in(bytes: &[u8], from: usize, model: &[u8]) -> bool {
         return false;
     }
     let to = from + count;
-    all(&bytes[0..from], 0) && same(&bytes[from..to], model) && all(&bytes[to..bytes.len()], 0)
+    all(&bytes[0..from], 0) && &bytes[from..to] == model && all(&bytes[to..], 0)
 }
 
 // Whether the card does as the model at the edges and in many rounds, which end settled.

@@ -1,20 +1,28 @@
 use super::model::*;
 use hold::Hold;
+use std::process::Abort;
 use store::promises::settle_to_one;
 use store::slices::{Chip, Memory};
 use store::traits::{Card, Store};
 use tray::Tray;
+
+// The model of N bytes, once a pile has done as it does.
+fn modelled<C: Card + Drop, const N: usize>(rt: &impl Abort, pile: C, random: u32) -> [u8; N] {
+    let mut card = pile;
+    let mut model = [0; N];
+    let mut buffer = [0; N];
+    assert!(rt; holds_up(&mut card, &mut model, random, &mut buffer));
+    model
+}
 
 // The trays lie from 1,024 on and have 19 sectors and 84 bytes: more sectors than a hold keeps, and a short last one.
 
 #[test]
 fn memory_and_chip(rt: HostRuntime) {
     let mut bytes = [0; 1300];
-    let mut model = [0; 1300];
-    let mut buffer = [0; 1300];
-    let mut card = Memory::new(&mut bytes);
-    assert!(rt; holds_up(&mut card, &mut model, 1, &mut buffer));
+    let model: [u8; 1300] = modelled(&rt, Memory::new(&mut bytes), 1);
     assert!(rt; lies_in(&bytes, 0, &model));
+    let mut buffer = [0; 1300];
     let mut chip = Chip::new(&bytes);
     chip.settle();
     assert!(rt; chip.length() == 1300);
@@ -25,30 +33,24 @@ fn memory_and_chip(rt: HostRuntime) {
 #[test]
 fn hold_over_tray(rt: HostRuntime) {
     let mut bytes = [0; 12_000];
-    let mut model = [0; 9_812];
-    let mut buffer = [0; 9_812];
-    let mut pile = Hold::new(Tray::new(Memory::new(&mut bytes), 1024, 9_812));
-    assert!(rt; holds_up(&mut pile, &mut model, 2, &mut buffer));
+    let pile = Hold::new(Tray::new(Memory::new(&mut bytes), 1024, 9_812));
+    let model: [u8; 9_812] = modelled(&rt, pile, 2);
     assert!(rt; lies_in(&bytes, 1024, &model));
 }
 
 #[test]
 fn tray_over_hold(rt: HostRuntime) {
     let mut bytes = [0; 12_000];
-    let mut model = [0; 9_812];
-    let mut buffer = [0; 9_812];
-    let mut pile = Tray::new(Hold::new(Memory::new(&mut bytes)), 1024, 9_812);
-    assert!(rt; holds_up(&mut pile, &mut model, 3, &mut buffer));
+    let pile = Tray::new(Hold::new(Memory::new(&mut bytes)), 1024, 9_812);
+    let model: [u8; 9_812] = modelled(&rt, pile, 3);
     assert!(rt; lies_in(&bytes, 1024, &model));
 }
 
 #[test]
 fn hold_over_hold_over_tray(rt: HostRuntime) {
     let mut bytes = [0; 12_000];
-    let mut model = [0; 9_812];
-    let mut buffer = [0; 9_812];
-    let mut pile = Hold::new(Hold::new(Tray::new(Memory::new(&mut bytes), 1024, 9_812)));
-    assert!(rt; holds_up(&mut pile, &mut model, 4, &mut buffer));
+    let pile = Hold::new(Hold::new(Tray::new(Memory::new(&mut bytes), 1024, 9_812)));
+    let model: [u8; 9_812] = modelled(&rt, pile, 4);
     assert!(rt; lies_in(&bytes, 1024, &model));
 }
 
@@ -56,14 +58,12 @@ fn hold_over_hold_over_tray(rt: HostRuntime) {
 #[test]
 fn tray_over_tray_over_hold(rt: HostRuntime) {
     let mut bytes = [0; 12_000];
-    let mut model = [0; 9_300];
-    let mut buffer = [0; 9_300];
-    let mut pile = Tray::new(
+    let pile = Tray::new(
         Tray::new(Hold::new(Memory::new(&mut bytes)), 1024, 9_812),
         512,
         9_300,
     );
-    assert!(rt; holds_up(&mut pile, &mut model, 5, &mut buffer));
+    let model: [u8; 9_300] = modelled(&rt, pile, 5);
     assert!(rt; lies_in(&bytes, 1536, &model));
 }
 

@@ -1,5 +1,5 @@
 -- What holds of the layout of every accepted page.
-use Rattle.std.proofs.Common.{◌≡◌, ℕ, ◌<◌, ◌≤◌, min, Bool, true, false, ◌&&◌, leb, List, get_or, Ok, refl, subst, inl, inr, ⊎_elim, arith}
+use Rattle.std.proofs.Common.{◌≡◌, ℕ, ◌<◌, ◌≤◌, min, Bool, true, ◌&&◌, leb, List, length, get_or, Ok, refl, subst, inl, inr, ⊎_elim, arith}
 use Rattle.std.proofs.lemmas.Bool.{and_from, le-leb}
 use Rattle.std.proofs.lemmas.Bool.Decides.{nat_tests}
 use Rattle.octets.specs.Rows.{Bits}
@@ -8,11 +8,14 @@ use Rattle.raster.specs.Picture.{allowed, kind_of}
 use Rattle.entries.specs.declared.entry.Directory.{Directory}
 use Rattle.entries.specs.declared.fields.Fields.{Fields}
 use Rattle.entries.specs.Entries.{directory_at}
+use Rattle.links.specs.Links.{places_of}
 use Rattle.pages.specs.declared.layout.Layout.{Layout}
 use Rattle.pages.specs.declared.layout.Sampling.{Sampling}
 use Rattle.pages.specs.declared.layout.Sides.{Sides}
 use Rattle.pages.specs.declared.layout.Values.{Values}
-use Rattle.pages.specs.Pages.{between, page_side, interpreted, tiled}
+use Rattle.pages.specs.declared.layout.SegmentKind.{SegmentKind}
+use Rattle.pages.specs.declared.layout.SegmentKind.TheVariants.{Strip, Tile}
+use Rattle.pages.specs.Pages.{between, page_side, interpreted, segment_kind}
 use Rattle.pages.specs.Opening.{page_of, page_at, opened, HasPage}
 use Rattle.rules.specs.Rules.{Grey, Rgb, KindRules, SideRules, cut_by}
 use Rattle.rules.proofs.Meeting.{Laid, Paged, page_was, opened_was}
@@ -36,11 +39,11 @@ kind_allowed s k =
     (λ (g : Rgb s). rgb_allowed s.photometric s.first g.photometric g.first)
     k.allowed
 
-cut_sides : (t : Bool) (s : Sides) → SideRules t s → (page_side (cut_by t s).wide ≡ true) × (page_side (cut_by t s).high ≡ true)
-cut_sides true s r =
+cut_sides : (t : SegmentKind) (s : Sides) → SideRules t s → (page_side (cut_by t s).wide ≡ true) × (page_side (cut_by t s).high ≡ true)
+cut_sides Tile s r =
     let h = r.tiles refl in
     (between_from 1 16384 s.across (omega arith) h.0.1, between_from 1 16384 s.down (omega arith) h.1.1)
-cut_sides false s r =
+cut_sides Strip s r =
     let h = r.strips refl in (
       between_from 1 16384 s.width r.width.0 r.width.1,
       between_from 1 16384 (min s.rows s.height) (omega (arith, r.height.0)) (omega (arith, r.height.1)),
@@ -51,9 +54,9 @@ unfolding sane
 laid_sane d n fs v l a =
     let s : Sides = v.sides in
     let o : ℕ = v.format.orientation in
-    let cut = cut_sides (tiled fs) s a.sides in
-    let w : Bool = page_side (cut_by (tiled fs) s).wide in
-    let h : Bool = page_side (cut_by (tiled fs) s).high in
+    let cut = cut_sides (segment_kind fs) s a.sides in
+    let w : Bool = page_side (cut_by (segment_kind fs) s).wide in
+    let h : Bool = page_side (cut_by (segment_kind fs) s).high in
     subst (λ (q : Layout). sane q ≡ true) a.is
     (and_from (allowed (kind_of (interpreted v.sampling.photometric) v.sampling.first)) ((page_side s.width && page_side s.height) && ((w && h) && between 1 8 o))
     (kind_allowed v.sampling a.kind)
@@ -71,7 +74,7 @@ at_sane o bs n page place l e = page_sane bs n (directory_at o bs page place) l 
 pub opened_sane : (bs : List ℕ) (page : ℕ) (l : Layout) → opened bs page ≡ Ok l → sane l ≡ true
 opened_sane bs page l e =
     let x = opened_was bs page l e in
-    at_sane x.found.endian bs x.found.count page (get_or x.found.places page 0) l x.accepted
+    at_sane x.found.endian bs (length (places_of x.found)) page (get_or (places_of x.found) page 0) l x.accepted
 
 -- what an accepted page was made of
 pub has_page : (bs : List ℕ) (l : Layout) → HasPage bs l → Paged bs l.directories (directory_at l.directory.endian bs l.directory.page l.directory.place) l

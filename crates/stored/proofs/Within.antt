@@ -9,6 +9,7 @@ use Rattle.raster.specs.declared.grid.Photometric.{Photometric}
 use Rattle.raster.specs.declared.grid.Photometric.TheVariants.{WhiteIsZero, BlackIsZero, Rgb}
 use Rattle.raster.specs.Picture.{allowed, kind_of}
 use Rattle.pages.specs.declared.layout.Layout.{Layout}
+use Rattle.pages.specs.Tags.{are_tiles}
 use Rattle.pages.specs.Geometry.{samples_of, across, segments, segments_of, first_row, rows_of, row_bytes, needed}
 use Rattle.stored.specs.Pixels.{segment_of, first_sample}
 use Rattle.stored.specs.Reading.{start_of}
@@ -43,7 +44,7 @@ module _ (l : Layout) (s : Sane l) (x y : ℕ) (inx : x < l.width) (iny : y < l.
       let k : ℕ = segment_of c l.width x y in
       let m : y % c.high < c.high = mod-lt y s.high.least in
       let e : first_row c l.width k ≡ y / c.high * c.high = ap (λ r. r * c.high) (digits_div (y / c.high) in_across) in
-      cond_both c.tiled c.high (min c.high (l.height - first_row c l.width k)) (λ n. y % c.high < n)
+      cond_both (are_tiles c.kind) c.high (min c.high (l.height - first_row c l.width k)) (λ n. y % c.high < n)
       (λ _. m)
       (λ _. rw e (omega (arith, div-add-mod' y c.high)))
 

@@ -1,5 +1,6 @@
 pub mod Pixels
 pub mod Sane
+pub mod Depths
 pub mod Soundness
 pub mod Reading
 pub mod Reads

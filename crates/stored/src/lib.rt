@@ -3,6 +3,5 @@
 
 pub mod laws;
 pub mod page;
-pub mod places;
 pub mod samples;
-pub mod stored;
+pub mod spot;

@@ -1,24 +1,24 @@
 // A page of a store: its layout, and its pixels as they are shown.
 ghost use Rattle.std.specs.Prelude.{◌≡◌, true, Ok};
+ghost use Rattle.store.specs.Looking.{Looked};
 ghost use Rattle.faults.specs.Faults.{then};
 ghost use Rattle.pages.specs.Opening.{opened};
 ghost use Rattle.raster.specs.Picture.{pixel_of};
-ghost use Rattle.store.specs.Rules.{NoGain};
 ghost use Rattle.stored.specs.Pixels.{picture_of, shown_width, shown_height};
 ghost use Rattle.stored.specs.Sane.{sane};
 
-use crate::places::*;
-use crate::stored::read_stored;
+use crate::spot::Spot;
 use faults::fault::{Check, Fault};
 use opening::page::open_page;
 use pages::layout::Layout;
 use raster::grid::{Kind, Size};
+use raster::turn::{column_below, row_below};
 use store::traits::Store;
 
 // The layout of a page, within the limits of a page.
 #[derive(Clone, Copy)]
 pub struct Page {
-    layout: Layout,
+    pub(crate) layout: Layout,
     ghost limits: { sane layout ≡ true },
 }
 
@@ -26,9 +26,7 @@ impl Page {
     // A page of the store, or the first fault.
     pub fn open<S: Store>(store: &mut S, page: u32) -> Result<Page, Fault>
         ensures value { then result (λ p. Ok p.layout) ≡ opened (S.Store.seen store.old) page }
-        ensures same { S.Store.seen store.new ≡ S.Store.seen store.old }
-        ensures lists { NoGain (S.Store.may store.old) (S.Store.may store.new) }
-        ensures trails { NoGain (S.Store.trail store.old) (S.Store.trail store.new) }
+        ensures looked { Looked S.Store.seen S.Store.may S.Store.trail store.old store.new }
     {
         let layout = open_page(store, page)?;
         Ok(Page { layout })
@@ -58,33 +56,31 @@ impl Page {
         ensures width { result.width ≡ shown_width self.now.layout }
         ensures height { result.height ≡ shown_height self.now.layout }
     {
-        let width = self.layout.width;
-        let height = self.layout.height;
-        if swaps(self.layout.orientation) {
-            Size {
-                width: height,
-                height: width,
-            }
-        } else {
-            Size { width, height }
-        }
+        let Layout {
+            width,
+            height,
+            orientation,
+            ..
+        } = self.layout;
+        Size { width, height }.turned(orientation)
     }
 
     // The pixel number at column x, row y of the picture; Outside where either is not below its side.
     // Two reads of the store, and none where it is refused.
     pub fn pixel<S: Store>(&self, store: &mut S, x: u32, y: u32) -> Result<u32, Fault>
         ensures answer { result ≡ pixel_of (picture_of (S.Store.seen store.old) self.now.layout) x y }
-        ensures same { S.Store.seen store.new ≡ S.Store.seen store.old }
-        ensures lists { NoGain (S.Store.may store.old) (S.Store.may store.new) }
-        ensures trails { NoGain (S.Store.trail store.old) (S.Store.trail store.new) }
+        ensures looked { Looked S.Store.seen S.Store.may S.Store.trail store.old store.new }
     {
         let size = self.size();
         if x >= size.width || y >= size.height {
             return Err(Check::Outside.fault());
         }
         let turn = self.layout.orientation;
-        let column = column_below(turn, self.layout.width, x, y);
-        let row = row_below(turn, self.layout.height, x, y);
-        Ok(read_stored(store, &self.layout, column, row))
+        let spot = Spot {
+            page: self,
+            column: column_below(turn, self.layout.width, x, y),
+            row: row_below(turn, self.layout.height, x, y),
+        };
+        Ok(spot.read(store))
     }
 }

@@ -39,6 +39,7 @@ impl<C: Store> Tray<C> {
     }
 }
 
+// `read` and `write` make the same test, each for its own call below.
 impl<C: Store> Store for Tray<C> {
     ghost seen = { λ t. cut (C.Store.seen t.below) t.from t.len };
 

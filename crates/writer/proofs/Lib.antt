@@ -3,3 +3,4 @@ pub mod Located
 pub mod Samples
 pub mod Colours
 pub mod Drafted
+pub mod Asking

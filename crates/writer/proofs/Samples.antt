@@ -14,20 +14,21 @@ use Rattle.raster.specs.declared.grid.Photometric.TheVariants.{WhiteIsZero, Blac
 use Rattle.raster.specs.Picture.{Picture, Sound, framed, within, allowed, levels, kind_of}
 use Rattle.pages.specs.Geometry.{samples_of}
 use Rattle.plans.specs.declared.outline.Outline.{Outline}
-use Rattle.plans.specs.declared.view.View.{View}
 use Rattle.plans.specs.Views.{viewed, view_width, view_height}
 use Rattle.plans.proofs.Views.{views_show}
 use Rattle.writer.specs.declared.spots.Spot.{Spot}
 use Rattle.writer.specs.Spots.{pixel_at, sample_at, padded_at, byte_at}
-use Rattle.writer.specs.Painting.{Outlines}
+use Rattle.writer.specs.declared.canvas.Canvas.{Canvas}
+use Rattle.writer.specs.Painting.{Shows}
 
 -- a pixel of what is seen is below the levels of its kind
-pub pixel_below : (q : Outline) (p : Picture) (v : View) → Outlines q p v → Sound p → (spot : Spot) (x : ℕ) → pixel_at q (viewed p v).at spot x < levels q.kind
-pixel_below q p v o sound spot x =
-    let s = views_show p v o.seen in
+pub pixel_below : (c : Canvas) (p : Picture) → Shows c p → Sound p → (spot : Spot) (x : ℕ) → pixel_at c.head.draft.outline (viewed p c.view).at spot x < levels c.head.draft.outline.kind
+pixel_below c p shown sound spot x =
+    let q = c.head.draft.outline in
+    let s = views_show p c.view shown.seen in
     let small : (k : Kind) → 0 < levels k = λ k. cond_both (eqb _ 2) (2 ^ 24) (2 ^ k.bits) (λ n. 0 < n) (λ _. pow_pos 24) (λ _. pow_pos k.bits) in
-    cond_both (within q.width q.height (spot.column + x) spot.row) ((viewed p v).at (spot.column + x) spot.row) 0 (λ n. n < levels q.kind)
-    (λ _. subst (λ (k : Kind). (viewed p v).at (spot.column + x) spot.row < levels k) (s.kind ∙ sym o.kind) ((s.sound sound).samples (spot.column + x) spot.row))
+    cond_both (within q.width q.height (spot.column + x) spot.row) ((viewed p c.view).at (spot.column + x) spot.row) 0 (λ n. n < levels q.kind)
+    (λ _. subst (λ (k : Kind). (viewed p c.view).at (spot.column + x) spot.row < levels k) (s.kind ∙ sym shown.kind) ((s.sound sound).samples (spot.column + x) spot.row))
     (λ _. small q.kind)
 
 -- one sample to a pixel has the levels of its bits
@@ -136,15 +137,15 @@ before j size z l =
     )
 
 -- what is asked of the grid is the pixel of the outline
-pub asked_pixel : (q : Outline) (p : Picture) (v : View) → Outlines q p v → (spot : Spot) (x : ℕ)
-    → framed (view_width v) (view_height v) (viewed p v).at (spot.column + x) spot.row ≡ pixel_at q (viewed p v).at spot x
-asked_pixel q p v o spot x = ap₂ (λ w h. framed w h (viewed p v).at (spot.column + x) spot.row) (sym o.wide) (sym o.high)
+module _ (c : Canvas) (p : Picture) (shown : Shows c p) (spot : Spot) where
+  pub asked_pixel : (x : ℕ) → framed (view_width c.view) (view_height c.view) (viewed p c.view).at (spot.column + x) spot.row ≡ pixel_at c.head.draft.outline (viewed p c.view).at spot x
+  asked_pixel x = ap₂ (λ w h. framed w h (viewed p c.view).at (spot.column + x) spot.row) (sym shown.wide) (sym shown.high)
 
-pub asked_sample : (q : Outline) (p : Picture) (v : View) → Outlines q p v → Sound p → samples_of q.kind ≡ 1 → (spot : Spot) (s : ℕ) → s < q.cut.wide
-    → framed (view_width v) (view_height v) (viewed p v).at (spot.column + s) spot.row ≡ padded_at q (viewed p v).at spot s
-asked_sample q p v o sound single spot s l =
-    asked_pixel q p v o spot s
-    ∙ grey_inside q (viewed p v).at spot single s l (omega (arith, pixel_below q p v o sound spot s, single_levels q.kind single))
+  pub asked_sample : Sound p → samples_of c.head.draft.outline.kind ≡ 1 → (s : ℕ) → s < c.head.draft.outline.cut.wide
+      → framed (view_width c.view) (view_height c.view) (viewed p c.view).at (spot.column + s) spot.row ≡ padded_at c.head.draft.outline (viewed p c.view).at spot s
+  asked_sample sound single s l =
+      asked_pixel s
+      ∙ grey_inside c.head.draft.outline (viewed p c.view).at spot single s l (omega (arith, pixel_below c p shown sound spot s, single_levels c.head.draft.outline.kind single))
 
 packed_byte : (b : ℕ) → Bits b → (f : ℕ → ℕ) → ((t : ℕ) → f t < 2 ^ b) → packed (2 ^ b) (per_byte b) f < 256
 packed_byte = by_bits (λ b. (f : ℕ → ℕ) → ((t : ℕ) → f t < 2 ^ b) → packed (2 ^ b) (per_byte b) f < 256)

@@ -1,21 +1,24 @@
 -- What the bytes of a draft are painted from. Assumes nothing.
-use Rattle.std.specs.Prelude.{◌≡◌, ℕ, ◌-◌, ◌/◌, ◌%◌, ◌<◌, ◌≤◌, true, Some, None, Option}
+use Rattle.std.specs.Prelude.{◌≡◌, ℕ, ◌-◌, ◌/◌, ◌%◌, ◌<◌, true, Some, None, Option}
 use Rattle.raster.specs.Picture.{Picture}
+use Rattle.raster.specs.Kept.{Kept}
 use Rattle.plans.specs.declared.outline.Outline.{Outline}
-use Rattle.plans.specs.declared.view.View.{View}
-use Rattle.plans.specs.Outlines.{Proper, segments_in}
 use Rattle.plans.specs.Views.{shows, view_width, view_height}
+use Rattle.writer.specs.declared.canvas.Canvas.{Canvas}
 use Rattle.writer.specs.declared.spots.Spot.{Spot}
 use Rattle.writer.specs.Spots.{spot_of, pixel_at}
 
--- q is the outline of a draft of what v shows of p
-pub record Outlines (q : Outline) (p : Picture) (v : View) : Type 0 where
-  pub proper : Proper q
-  pub few : segments_in q ≤ 1024
-  pub seen : shows p v ≡ true
-  pub wide : q.width ≡ view_width v
-  pub high : q.height ≡ view_height v
-  pub kind : q.kind ≡ p.kind
+-- a canvas is that of what its view shows of p
+pub record Shows (c : Canvas) (p : Picture) : Type 0 where
+  pub seen : shows p c.view ≡ true
+  pub wide : c.head.draft.outline.width ≡ view_width c.view
+  pub high : c.head.draft.outline.height ≡ view_height c.view
+  pub kind : c.head.draft.outline.kind ≡ p.kind
+
+-- a question of a grid: it changes no picture, and keeps what else the grid keeps
+pub record Asked {G : Type 0} (picture : G → Picture) (keep : Kept G) (old new : G) : Type 0 where
+  pub kept : picture new ≡ picture old
+  pub keeps : keep.across old new
 
 -- the RGB pixel of which byte j of the segments is a part
 abbrev pub colour_at : Outline → (ℕ → ℕ → ℕ) → ℕ → ℕ

@@ -3,10 +3,11 @@ ghost use Rattle.std.specs.Prelude.{◌≡◌, ◌+◌, ◌/◌, ◌%◌, ◌<�
 ghost use Rattle.raster.specs.Picture.{framed, within};
 ghost use Rattle.raster.specs.Views.{column_below, row_below};
 ghost use Rattle.plans.specs.Views.{viewed, shows, view_width, view_height};
+ghost use Rattle.writer.specs.Painting.{Asked};
 
 use plans::view::View;
 use raster::grid::*;
-use stored::places::{column_below, row_below};
+use raster::turn::{column_below, row_below};
 
 // The column and the row of the grid below that a view shows at column x, row y.
 pub fn below(view: View, x: u32, y: u32) -> (u32, u32)
@@ -27,17 +28,13 @@ pub fn below(view: View, x: u32, y: u32) -> (u32, u32)
 pub fn seen_pixel<G: Grid>(grid: &mut G, view: View, x: u32, y: u32) -> u32
     requires { shows (G.picture grid.old) view ≡ true }
     ensures value { result ≡ framed (view_width view) (view_height view) (viewed (G.picture grid.old) view).at x y }
-    ensures kept { G.picture grid.new ≡ G.picture grid.old }
-    ensures keeps { G.keeps.across grid.old grid.new }
+    ensures asked { Asked G.picture G.keeps grid.old grid.new }
 {
     if !is_inside(view.size(), x, y) {
         return 0;
     }
     let (column, row) = below(view, x, y);
-    match grid.pixel(column, row) {
-        Ok(v) => v,
-        Err(_) => unreachable(),
-    }
+    grid.pixel(column, row).unwrap()
 }
 
 // Whether column x, row y lies inside the sides.
@@ -48,14 +45,16 @@ fn is_inside(size: Size, x: u32, y: u32) -> bool
 }
 
 // Red, green or blue of a pixel, counted from 0.
+// No enum: n is the place of a byte among the three of its pixel, and would first have to be turned into one.
 pub fn channel(pixel: u32, n: u32) -> u8
     ensures red { n ≡ 0 → result ≡ pixel / 65536 % 256 }
     ensures green { n ≡ 1 → result ≡ pixel / 256 % 256 }
     ensures blue { n ≡ 2 → result ≡ pixel % 256 }
 {
+    let [_, red, green, blue] = pixel.to_be_bytes();
     match n {
-        0 => (pixel / 65536 % 256) as u8,
-        1 => (pixel / 256 % 256) as u8,
-        _ => (pixel % 256) as u8,
+        0 => red,
+        1 => green,
+        _ => blue,
     }
 }

@@ -8,6 +8,7 @@ use plans::outline::Outline;
 
 // A byte of a row of a segment: the column of the picture at which the segment begins, the row of the picture, and
 // which byte of the segment's row it is.
+// The bounds stand in clauses and not as ghost fields, since the definitions name spots of any outline.
 #[derive(Clone, Copy)]
 pub struct Spot {
     pub column: u32,

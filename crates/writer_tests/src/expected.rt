@@ -1,5 +1,13 @@
 // Drafts by the rules of the format, made by expected.py and not by this code.
 
+// A sector of a draft: its length, its FNV-1a hash, and how many pixels it asks for.
+#[derive(Clone, Copy)]
+pub struct Sector {
+    pub length: usize,
+    pub hash: u64,
+    pub asked: u32,
+}
+
 pub fn grey() -> &'static [u8] {
     b"\x0c\x00\x00\x01\x04\x00\x01\x00\x00\x00\x03\x00\x00\x00\x01\x01\x04\x00\x01\x00\x00\x00\x02\x00\x00\x00\x02\x01\x03\x00\x01\x00\x00\x00\x08\x00\x00\x00\x03\x01\x03\x00\x01\x00\x00\x00\x01\x00\x00\x00\x06\x01\x03\x00\x01\x00\x00\x00\x01\x00\x00\x00\x11\x01\x04\x00\x01\x00\x00\x00\xa6\x02\x00\x00\x15\x01\x03\x00\x01\x00\x00\x00\x01\x00\x00\x00\x16\x01\x04\x00\x01\x00\x00\x00\x02\x00\x00\x00\x17\x01\x04\x00\x01\x00\x00\x00\x06\x00\x00\x00\x1a\x01\x05\x00\x01\x00\x00\x00\x96\x02\x00\x00\x1b\x01\x05\x00\x01\x00\x00\x00\x9e\x02\x00\x00\x28\x01\x03\x00\x01\x00\x00\x00\x01\x00\x00\x00\x00\x00\x00\x00\x01\x00\x00\x00\x01\x00\x00\x00\x01\x00\x00\x00\x01\x00\x00\x00\x01\x02\x03\x04\x05\x06"
 }
@@ -20,34 +28,24 @@ pub fn four() -> &'static [u8] {
     b"\x0c\x00\x00\x01\x04\x00\x01\x00\x00\x00\x05\x00\x00\x00\x01\x01\x04\x00\x01\x00\x00\x00\x03\x00\x00\x00\x02\x01\x03\x00\x01\x00\x00\x00\x04\x00\x00\x00\x03\x01\x03\x00\x01\x00\x00\x00\x01\x00\x00\x00\x06\x01\x03\x00\x01\x00\x00\x00\x01\x00\x00\x00\x11\x01\x04\x00\x02\x00\x00\x00\x96\x02\x00\x00\x15\x01\x03\x00\x01\x00\x00\x00\x01\x00\x00\x00\x16\x01\x04\x00\x01\x00\x00\x00\x02\x00\x00\x00\x17\x01\x04\x00\x02\x00\x00\x00\x9e\x02\x00\x00\x1a\x01\x05\x00\x01\x00\x00\x00\xa6\x02\x00\x00\x1b\x01\x05\x00\x01\x00\x00\x00\xae\x02\x00\x00\x28\x01\x03\x00\x01\x00\x00\x00\x01\x00\x00\x00\x00\x00\x00\x00\xb6\x02\x00\x00\xbc\x02\x00\x00\x06\x00\x00\x00\x03\x00\x00\x00\x01\x00\x00\x00\x01\x00\x00\x00\x01\x00\x00\x00\x01\x00\x00\x00\xa9\xbd\xe0\x67\x42\x10\x58\xf0\x30"
 }
 
-// The length of each sector, its FNV-1a hash, and how many pixels it asks for.
-pub const RGB_LENGTHS: [usize; 7] = [512, 512, 512, 512, 512, 512, 216];
-
 #[rattlefmt::skip]
-pub const RGB_HASHES: [u64; 7] = [
-    0x4cc0cb22c66ff31a,
-    0xf3ad54bcc04fbf13,
-    0xfa3c47841b26381d,
-    0x3848b6469696708d,
-    0x49504729fb1afd45,
-    0x0113d8473e1a694d,
-    0xadf383e262937205,
+pub const RGB: [Sector; 7] = [
+    Sector { length: 512, hash: 0x4cc0cb22c66ff31a, asked: 99 },
+    Sector { length: 512, hash: 0xf3ad54bcc04fbf13, asked: 162 },
+    Sector { length: 512, hash: 0xfa3c47841b26381d, asked: 44 },
+    Sector { length: 512, hash: 0x3848b6469696708d, asked: 80 },
+    Sector { length: 512, hash: 0x49504729fb1afd45, asked: 4 },
+    Sector { length: 512, hash: 0x0113d8473e1a694d, asked: 12 },
+    Sector { length: 216, hash: 0xadf383e262937205, asked: 0 },
 ];
 
-pub const RGB_ASKED: [u32; 7] = [99, 162, 44, 80, 4, 12, 0];
-
-// The length of each sector, its FNV-1a hash, and how many pixels it asks for.
-pub const RGB_TURNED_LENGTHS: [usize; 7] = [512, 512, 512, 512, 512, 512, 200];
-
 #[rattlefmt::skip]
-pub const RGB_TURNED_HASHES: [u64; 7] = [
-    0x510de1977fe1f4c3,
-    0x65ff46e83b848892,
-    0x3042328b4fb3e74e,
-    0xfcf4d77308da6cc0,
-    0xb1b33bc1d70fd6c2,
-    0x7da144b97d054b25,
-    0x37027190f725c8c5,
+pub const RGB_TURNED: [Sector; 7] = [
+    Sector { length: 512, hash: 0x510de1977fe1f4c3, asked: 104 },
+    Sector { length: 512, hash: 0x65ff46e83b848892, asked: 171 },
+    Sector { length: 512, hash: 0x3042328b4fb3e74e, asked: 14 },
+    Sector { length: 512, hash: 0xfcf4d77308da6cc0, asked: 7 },
+    Sector { length: 512, hash: 0xb1b33bc1d70fd6c2, asked: 11 },
+    Sector { length: 512, hash: 0x7da144b97d054b25, asked: 0 },
+    Sector { length: 200, hash: 0x37027190f725c8c5, asked: 0 },
 ];
-
-pub const RGB_TURNED_ASKED: [u32; 7] = [104, 171, 14, 7, 11, 0, 0];

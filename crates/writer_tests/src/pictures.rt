@@ -43,10 +43,10 @@ pub fn column(height: u32) -> Sheet<'static> {
 // The pixels of an RGB picture 20 by 20: 12 x, 12 y and 6 x + y at column x, row y.
 pub fn rgb_pixels() -> [u32; 400] {
     let mut pixels = [0; 400];
-    for i in 0..400 {
+    for (i, pixel) in pixels.iter_mut().enumerate() {
         let x = (i % 20) as u32;
         let y = (i / 20) as u32;
-        pixels[i] = 65536 * (12 * x) + 256 * (12 * y) + (6 * x + y);
+        *pixel = 65536 * (12 * x) + 256 * (12 * y) + (6 * x + y);
     }
     pixels
 }

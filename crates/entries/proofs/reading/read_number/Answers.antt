@@ -1,7 +1,8 @@
 use Rattle.std.proofs.Common.{◌^◌, ◌<◌, length, sym, ◌∙◌, arith}
+use Rattle.store.proofs.Looks.{looked_none}
+use Rattle.reads.proofs.Parts.{short_is, long_is}
 use Rattle.entries.specs.declared.fields.Form.TheVariants.{Short, Long}
 use Rattle.entries.specs.Fields.{place_of}
-use Rattle.entries.proofs.Looks.{looked_none}
 use Rattle.entries.proofs.Counting.{number_past, number_by}
 use Rattle.entries.proofs.reading.read_number.Goals as goal
 
@@ -18,17 +19,17 @@ returns-then-place g c =
 pub returns-in-Short : goal.returns-in-Short
 returns-in-Short g c =
     let bs = g.S.Store.seen c.args.store.now in
-    let r = c.read_short.ensures in
+    let r = c.read.ensures in
     record {
-      value = r.value ∙ number_by c.args.endian bs c.args.numbers c.args.k Short _ c.in-Short.is c.place_of-place.ensures;
-      looked = record { same = r.same; lists = r.lists; trails = r.trails };
+      value = r.value ∙ short_is c.args.endian bs _ ∙ number_by c.args.endian bs c.args.numbers c.args.k Short _ c.in-Short.is c.place_of-place.ensures;
+      looked = r.looked;
     }
 
 pub returns-in-Long : goal.returns-in-Long
 returns-in-Long g c =
     let bs = g.S.Store.seen c.args.store.now in
-    let r = c.read_long.ensures in
+    let r = c.read-in-Long.ensures in
     record {
-      value = r.value ∙ number_by c.args.endian bs c.args.numbers c.args.k Long _ c.in-Long.is c.place_of-place.ensures;
-      looked = record { same = r.same; lists = r.lists; trails = r.trails };
+      value = r.value ∙ long_is c.args.endian bs _ ∙ number_by c.args.endian bs c.args.numbers c.args.k Long _ c.in-Long.is c.place_of-place.ensures;
+      looked = r.looked;
     }

@@ -1,8 +1,8 @@
 use Rattle.std.proofs.Common.{◌+◌, ◌-◌, ◌*◌, ◌≤◌, length, Err, sym, ap, ◌∙◌, subst, arith}
 use Rattle.std.proofs.lemmas.Result.{err_from_is_err_and}
+use Rattle.store.proofs.Looks.{looked_none, looked_on}
 use Rattle.entries.specs.Entries.{accepted, entries_from}
 use Rattle.links.proofs.Chaining.{then_err, then_ok}
-use Rattle.entries.proofs.Looks.{looked_none, looked_on}
 use Rattle.entries.proofs.Scanning.{collected, collect_start, collect_turn, collect_end}
 use Rattle.entries.proofs.reading.scan.Goals as goal
 

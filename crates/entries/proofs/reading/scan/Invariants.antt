@@ -1,7 +1,7 @@
 use Rattle.std.proofs.Common.{◌≡◌, ◌+◌, ◌-◌, ◌*◌, length}
+use Rattle.store.specs.Looking.{Looked}
 use Rattle.entries.specs.Entries.{entries_from}
 use Rattle.entries.specs.Fields.{fielded}
-use Rattle.entries.specs.Looking.{Looked}
 use Rattle.entries.proofs.Scanning.{collected}
 use Rattle.entries.proofs.reading.scan.Given as goal
 

@@ -9,7 +9,7 @@ use Rattle.hold.proofs.Kept.{progress_none, progress_more, progress_length}
 use Rattle.hold.proofs.HoldCard.write.Goals as goal
 
 pub loop-done-init : goal.loop-done-init
-loop-done-init g c = progress_none _ _ _ _ _ _
+loop-done-init g c = progress_none _ _
 
 pub put-requires : goal.put-requires
 put-requires g c =
@@ -20,7 +20,7 @@ put-requires g c =
     let n = length_overlaid a.table.slots below₀ in
     let bytes = c.args.bytes.now in
     let fit : c.args.place + length bytes ≤ length below₀ = omega (arith, c.length.ensures) in
-    let m = progress_length _ _ _ _ _ _ _ _ _ _ _ fit p in
+    let m = progress_length g.C.Store _ _ _ _ _ fit p in
     let count = c.min-count.ensures in
     let l : length (take (c.loop-done.done + c.min-count.result - c.loop-done.done) (drop c.loop-done.done bytes)) ≡ c.min-count.result =
     omega (arith, length-take (c.loop-done.done + c.min-count.result - c.loop-done.done) (drop c.loop-done.done bytes), length-drop c.loop-done.done bytes) in
@@ -43,7 +43,7 @@ loop-done-preserved g c =
     let edge : (done + count ≡ length bytes) ⊎ ((place + done + count) % 512 ≡ 0) =
     ⊎_elim (λ (z : 512 - (place + done) % 512 < length bytes - done). inr (omega arith)) (λ (z : length bytes - done ≤ 512 - (place + done) % 512). inl (omega arith))
     (cases_lt (512 - (place + done) % 512) (length bytes - done)) in
-    progress_more _ _ _ below₀ _ _ _ _ _ _ _ _ place done count bytes _ (laws.held a.below) (λ s. laws.trailed a.below s _ (laws.held a.below s))
+    progress_more g.C.Store _ _ _ g.C.Store.laws place done count bytes _
     fit (omega arith) (omega arith) (omega arith) edge (ap (λ (k : ℕ). take k (drop done bytes)) (let e : done + count - done ≡ count = omega arith in e)) p c.put.ensures.put c.put.ensures.kept
 
 pub returns : goal.returns

@@ -1,10 +1,9 @@
-use Rattle.std.proofs.Common.{◌≡◌, ◌<◌, ◌≤◌, Ok, Err, sym, ap, ◌∙◌, subst, arith}
+use Rattle.std.proofs.Common.{◌≡◌, Ok, Err, ok_or, sym, ap, ◌∙◌, subst}
 use Rattle.std.proofs.lemmas.Result.{err_from_is_err_and}
 use Rattle.plans.specs.Views.{view_checked}
-use Rattle.plans.specs.Plans.{plan_outline}
-use Rattle.plans.specs.Outlines.{Proper, segments_in, block_size}
-use Rattle.drafts.specs.Steps.{outline_by, width_of, height_of}
-use Rattle.holder.proofs.Sizes.{check_shows, sized_view, sized_many, sized_ok, view_proper}
+use Rattle.plans.specs.Plans.{Drafts, plan_outline}
+use Rattle.drafts.specs.Steps.{width_of, height_of}
+use Rattle.holder.proofs.Sizes.{sized_view, sized_by, sized_draft}
 use Rattle.holder.proofs.cards.size_for.Goals as goal
 
 pub returns-in_err-check : goal.returns-in_err-check
@@ -16,31 +15,17 @@ returns-in_err-check c =
     let told : view_checked (width_of l) (height_of l) c.args.view ≡ Err c.in_err-check.field-0.0 = sym (c.check.ensures ∙ sides) ∙ c.in_err-check.was in
     f.1 ∙ ap Err f.2 ∙ sym (sized_view l c.args.view c.args.plan c.in_err-check.field-0.0 told)
 
-pub returns-then-segments-gt-MOST_SEGMENTS : goal.returns-then-segments-gt-MOST_SEGMENTS
-returns-then-segments-gt-MOST_SEGMENTS c =
+pub returns-in_err-draft : goal.returns-in_err-draft
+returns-in_err-draft c =
     let l = c.args.page.layout in
     let v = c.args.view in
     let sides : view_checked c.size.result.width c.size.result.height v ≡ view_checked (width_of l) (height_of l) v =
     λ i. view_checked (c.size.ensures.width i) (c.size.ensures.height i) v in
-    let shows = check_shows (width_of l) (height_of l) v (sym (c.check.ensures ∙ sides) ∙ c.in_ok-check.was) in
-    let outline : c.outline-outline.result ≡ outline_by v c.args.plan l.kind =
-    c.outline-outline.ensures ∙ (λ i. plan_outline c.args.plan (c.size-2.ensures.width i) (c.size-2.ensures.height i) (c.kind.ensures i)) in
-    let many : 1024 < segments_in (outline_by v c.args.plan l.kind) = subst (λ n. 1024 < n) (c.segments.ensures ∙ ap segments_in outline) c.if-segments-gt-MOST_SEGMENTS.true in
-    ap Err c.fault.ensures ∙ sym (sized_many l v c.args.plan shows many)
-
-pub size-requires-3 : goal.size-requires-3
-size-requires-3 c =
-    let l = c.args.page.layout in
-    let v = c.args.view in
-    let sides : view_checked c.size.result.width c.size.result.height v ≡ view_checked (width_of l) (height_of l) v =
-    λ i. view_checked (c.size.ensures.width i) (c.size.ensures.height i) v in
-    let shows = check_shows (width_of l) (height_of l) v (sym (c.check.ensures ∙ sides) ∙ c.in_ok-check.was) in
-    let outline : c.outline-outline.result ≡ outline_by v c.args.plan l.kind =
-    c.outline-outline.ensures ∙ (λ i. plan_outline c.args.plan (c.size-2.ensures.width i) (c.size-2.ensures.height i) (c.kind.ensures i)) in
-    record {
-      proper = subst Proper (sym outline) (view_proper l v c.args.plan c.args.page.limits shows);
-      few = omega (arith, c.segments.ensures, c.if-segments-gt-MOST_SEGMENTS.false);
-    }
+    let drafted = subst (Drafts c.draft.result) (λ i. plan_outline c.args.plan (c.size-2.ensures.width i) (c.size-2.ensures.height i) (c.kind.ensures i)) c.draft.ensures in
+    let f = err_from_is_err_and c.from_residual-in_err-draft.result c.from_residual-in_err-draft.ensures.1 in
+    f.1 ∙ ap Err f.2 ∙ sym (ap sized_by c.in_err-draft.was)
+    ∙ sized_draft l v c.args.plan c.draft.result c.ok_or.result c.args.page.limits (sym (c.check.ensures ∙ sides) ∙ c.in_ok-check.was) drafted
+    (c.ok_or.ensures.value ∙ ap (ok_or c.draft.result) c.fault.ensures)
 
 pub returns : goal.returns
 returns c =
@@ -48,8 +33,7 @@ returns c =
     let v = c.args.view in
     let sides : view_checked c.size.result.width c.size.result.height v ≡ view_checked (width_of l) (height_of l) v =
     λ i. view_checked (c.size.ensures.width i) (c.size.ensures.height i) v in
-    let shows = check_shows (width_of l) (height_of l) v (sym (c.check.ensures ∙ sides) ∙ c.in_ok-check.was) in
-    let outline : c.outline-outline.result ≡ outline_by v c.args.plan l.kind =
-    c.outline-outline.ensures ∙ (λ i. plan_outline c.args.plan (c.size-2.ensures.width i) (c.size-2.ensures.height i) (c.kind.ensures i)) in
-    let few : segments_in (outline_by v c.args.plan l.kind) ≤ 1024 = subst (λ n. n ≤ 1024) (c.segments.ensures ∙ ap segments_in outline) c.if-segments-gt-MOST_SEGMENTS.false in
-    ap Ok (c.size-3.ensures ∙ ap block_size outline) ∙ sym (sized_ok l v c.args.plan shows few)
+    let drafted = subst (Drafts c.draft.result) (λ i. plan_outline c.args.plan (c.size-2.ensures.width i) (c.size-2.ensures.height i) (c.kind.ensures i)) c.draft.ensures in
+    ap Ok c.size-3.ensures ∙ sym (ap sized_by c.in_ok-draft.was)
+    ∙ sized_draft l v c.args.plan c.draft.result c.ok_or.result c.args.page.limits (sym (c.check.ensures ∙ sides) ∙ c.in_ok-check.was) drafted
+    (c.ok_or.ensures.value ∙ ap (ok_or c.draft.result) c.fault.ensures)

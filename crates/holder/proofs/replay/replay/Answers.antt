@@ -11,7 +11,7 @@ use Rattle.holder.proofs.replay.replay.Goals as goal
 
 pub loop-line-init : goal.loop-line-init
 loop-line-init g c =
-    let m : Mem = mem_of g.C.Store.seen g.C.Store.may g.C.Store.trail c.new-holder.result.store in (
+    let m : Mem = mem_of g.C.Store c.new-holder.result.store in (
       record { calls = refl; rest = refl },
       subst (λ (h : Held). HeldTo m [] (world h m)) (sym c.new-holder.ensures.fresh) (held_none m (g.C.Store.laws.short c.new-holder.result.store)),
     )
@@ -24,9 +24,9 @@ loop-line-preserved g c =
     let old : Line = c.line-item.result in
     let line : Line = c.answer.new.line in
     let here : i < length ls = omega arith in
-    let start : Mem = mem_of g.C.Store.seen g.C.Store.may g.C.Store.trail c.new-holder.result.store in
-    let v = world_of g.C.Store.seen g.C.Store.may g.C.Store.trail c.loop-line.holder in
-    let w = world_of g.C.Store.seen g.C.Store.may g.C.Store.trail c.answer.new.self in
+    let start : Mem = mem_of g.C.Store c.new-holder.result.store in
+    let v = world_of g.C.Store c.loop-line.holder in
+    let w = world_of g.C.Store c.answer.new.self in
     let same : line.call ≡ (get_or ls i old).call = c.answer.ensures.call in
     let stepped : Stepped v (line_of (get_or ls i old) line) w = c.answer.ensures.stepped in (
       replayed_more sent ls i old line here same c.loop-line.invariant.0,
@@ -41,11 +41,11 @@ returns g c =
     let i = c.loop-line.line-index in
     let over : length ls ≤ i = omega arith in
     let all : length sent ≤ i = omega arith in
-    let n : Mem = mem_of g.C.Store.seen g.C.Store.may g.C.Store.trail c.loop-line.holder.store in
+    let n : Mem = mem_of g.C.Store c.loop-line.holder.store in
     let law = held_law _ _ _ c.loop-line.invariant.1 in
     record {
-      run = subst (λ (z : Mem). LawfulRun z (lines_of sent ls) n) (ap (mem_of g.C.Store.seen g.C.Store.may g.C.Store.trail) c.new-holder.ensures.store)
-          (subst (λ (z : List Line). LawfulRun (mem_of g.C.Store.seen g.C.Store.may g.C.Store.trail c.new-holder.result.store) (lines_of sent z) n) (take_all i ls over)
-          (subst (λ (z : List Line). LawfulRun (mem_of g.C.Store.seen g.C.Store.may g.C.Store.trail c.new-holder.result.store) (lines_of z (take i ls)) n) (take_all i sent all) law));
+      run = subst (λ (z : Mem). LawfulRun z (lines_of sent ls) n) (ap (mem_of g.C.Store) c.new-holder.ensures.store)
+          (subst (λ (z : List Line). LawfulRun (mem_of g.C.Store c.new-holder.result.store) (lines_of sent z) n) (take_all i ls over)
+          (subst (λ (z : List Line). LawfulRun (mem_of g.C.Store c.new-holder.result.store) (lines_of z (take i ls)) n) (take_all i sent all) law));
       calls = c.loop-line.invariant.0.calls;
     }

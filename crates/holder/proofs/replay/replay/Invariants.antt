@@ -9,5 +9,5 @@ use Rattle.holder.proofs.replay.replay.Given as goal
 abbrev pub invariant-loop-line : goal.invariant-loop-line
 invariant-loop-line g l =
     Replayed l.line-index l.initial.lines l.lines
-    × HeldTo (mem_of g.C.Store.seen g.C.Store.may g.C.Store.trail l.initial.holder.store) (lines_of (take l.line-index l.initial.lines) (take l.line-index l.lines))
-    (world_of g.C.Store.seen g.C.Store.may g.C.Store.trail l.holder)
+    × HeldTo (mem_of g.C.Store l.initial.holder.store) (lines_of (take l.line-index l.initial.lines) (take l.line-index l.lines))
+    (world_of g.C.Store l.holder)

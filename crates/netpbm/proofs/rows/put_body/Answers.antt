@@ -1,29 +1,24 @@
-use Rattle.std.proofs.Common.{ℕ, List, length, refl, ap, ◌∙◌, arith}
+use Rattle.std.proofs.Common.{◌<◌, ap, arith}
 use Rattle.raster.specs.Picture.{Picture}
-use Rattle.raster.specs.Views.{rectangle, fits}
 use Rattle.pnm.specs.Netpbm.{row_bytes}
-use Rattle.octets.proofs.Puts.{put_none, put_then, put_as}
-use Rattle.octets.proofs.Runs.{run_more, run_room}
+use Rattle.pnm.proofs.Cursors.{wrote_none, wrote_more, room_more}
+use Rattle.netpbm.specs.Asked.{asked_none, asked_then}
 use Rattle.netpbm.proofs.rows.put_body.Goals as goal
 
 pub loop-row-init : goal.loop-row-init
-loop-row-init g c = (refl, g.G.Grid.keeps.none _, put_none _ _ (omega arith))
+loop-row-init g c = record { asked = asked_none _; wrote = wrote_none _ (omega (arith, c.requires)) }
 
-pub put_row-end-requires : goal.put_row-end-requires
-put_row-end-requires g c =
-    let f : ℕ → List ℕ = row_bytes (rectangle (g.G.Grid.picture c.args.grid.now) c.args.area) in
-    let same = ap (λ (q : Picture). row_bytes (rectangle q c.args.area) c.loop-row.row) c.loop-row.invariant.0 in
-    record {
-      fits = ap (λ (q : Picture). fits q c.args.area) c.loop-row.invariant.0 ∙ c.requires.fits;
-      row = c.loop-row-test.true;
-      room = omega (arith, ap length same, run_room f c.args.area.height c.loop-row.row c.loop-row-test.true, c.loop-row.invariant.2.place, c.requires.room);
-    }
+pub put_row-requires-clause-room : goal.put_row-requires-clause-room
+put_row-requires-clause-room g c =
+    let p = g.G.Grid.picture c.args.grid.now in
+    let less : c.loop-row.row < p.height = omega (arith, c.loop-row-test.true, c.size-row-end.ensures.height) in
+    let same = ap (λ (q : Picture). row_bytes q c.loop-row.row) c.loop-row.invariant.asked.kept in
+    room_more (row_bytes p) p.height c.loop-row.row _ less c.requires c.loop-row.invariant.wrote same
 
 pub loop-row-preserved : goal.loop-row-preserved
 loop-row-preserved g c =
-    let f : ℕ → List ℕ = row_bytes (rectangle (g.G.Grid.picture c.args.grid.now) c.args.area) in
-    let same = ap (λ (q : Picture). row_bytes (rectangle q c.args.area) c.loop-row.row) c.loop-row.invariant.0 in (
-      c.put_row-end.ensures.kept ∙ c.loop-row.invariant.0,
-      g.G.Grid.keeps.both c.loop-row.invariant.1 c.put_row-end.ensures.keeps,
-      put_as (run_more f c.loop-row.row) (put_then c.loop-row.invariant.2 (put_as same c.put_row-end.ensures.put)),
-    )
+    let same = ap (λ (q : Picture). row_bytes q c.loop-row.row) c.loop-row.invariant.asked.kept in
+    record {
+      asked = asked_then c.loop-row.invariant.asked c.put_row.ensures.asked;
+      wrote = wrote_more (row_bytes (g.G.Grid.picture c.args.grid.now)) c.loop-row.row c.loop-row.invariant.wrote same c.put_row.ensures.wrote;
+    }

@@ -1,13 +1,11 @@
-use Rattle.std.proofs.Common.{◌≡◌}
 use Rattle.std.specs.List.{range_with_len, flat_map}
+use Rattle.pnm.specs.Cursors.{Wrote}
 use Rattle.pnm.specs.Netpbm.{row_bytes}
-use Rattle.octets.specs.Writes.{Put}
-use Rattle.raster.specs.Views.{rectangle}
+use Rattle.netpbm.specs.Asked.{Asked}
 use Rattle.netpbm.proofs.rows.put_body.Given as goal
 
 abbrev pub invariant-loop-row : goal.invariant-loop-row
-invariant-loop-row g l =
-    let p = g.G.Grid.picture in
-    (p l.grid ≡ p l.initial.grid)
-    × g.G.Grid.keeps.across l.initial.grid l.grid
-    × Put l.initial.buffer l.initial.end (flat_map (row_bytes (rectangle (p l.initial.grid) l.area)) (range_with_len 0 l.row)) l.buffer l.end
+invariant-loop-row g l = record {
+  asked : Asked g.G.Grid.picture g.G.Grid.keeps l.initial.grid l.grid;
+  wrote : Wrote l.initial.out (flat_map (row_bytes (g.G.Grid.picture l.initial.grid)) (range_with_len 0 l.row)) l.out;
+}

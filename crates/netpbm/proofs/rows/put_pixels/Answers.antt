@@ -1,39 +1,31 @@
-use Rattle.std.proofs.Common.{ℕ, List, length, refl, ap, ◌∙◌, arith}
+use Rattle.std.proofs.Common.{ℕ, ◌<◌, List, ap, ◌∙◌, ap₂, arith}
 use Rattle.raster.specs.Picture.{Picture}
-use Rattle.raster.specs.Views.{rectangle}
 use Rattle.pnm.specs.Netpbm.{pixel_bytes}
-use Rattle.raster.specs.declared.grid.Area.{Area}
-use Rattle.pnm.proofs.Samples.{shown, shown_bytes}
-use Rattle.octets.proofs.Puts.{put_none, put_then, put_as}
-use Rattle.octets.proofs.Runs.{run_more, run_room}
+use Rattle.pnm.proofs.Cursors.{wrote_none, wrote_more, room_more}
+use Rattle.netpbm.specs.Asked.{asked_none, asked_then}
 use Rattle.netpbm.proofs.rows.put_pixels.Goals as goal
 
-pub loop-column-init : goal.loop-column-init
-loop-column-init g c = (refl, g.G.Grid.keeps.none _, put_none _ _ (omega arith))
-
 -- the bytes of column x
-bytes : Picture → Area → ℕ → ℕ → List ℕ
-bytes p a y x = pixel_bytes p.kind ((rectangle p a).at x y)
+abbrev bytes : Picture → ℕ → ℕ → List ℕ
+bytes p y x = pixel_bytes p.kind (p.at x y)
 
-pub put_pixel-end-requires : goal.put_pixel-end-requires
-unfolding bytes
-put_pixel-end-requires g c =
+pub loop-column-init : goal.loop-column-init
+loop-column-init g c = record { asked = asked_none _; wrote = wrote_none _ (omega (arith, c.requires.room)) }
+
+pub put_pixel-requires-clause-room : goal.put_pixel-requires-clause-room
+put_pixel-requires-clause-room g c =
     let p = g.G.Grid.picture c.args.grid.now in
-    let h = shown p _ c.args.area _ _ _ _ (g.G.Grid.sound c.args.grid.now) c.kind-kind.ensures c.loop-column.invariant.0 c.sample-v.ensures.value in
-    let room = run_room (bytes p c.args.area c.args.row) c.args.area.width c.loop-column.column c.loop-column-test.true in
-    record {
-      kinds = h.allowed_kind;
-      value = h.below;
-      room = omega (arith, ap length (shown_bytes h), room, c.loop-column.invariant.2.place, c.requires.room);
-    }
+    let less : c.loop-column.column < p.width = omega (arith, c.loop-column-test.true, c.size-column-end.ensures.width) in
+    let value = c.sample-v.ensures.value ∙ ap (λ (q : Picture). q.at c.loop-column.column c.args.row) c.loop-column.invariant.asked.kept in
+    room_more (bytes p c.args.row) p.width c.loop-column.column _ less c.requires.room c.loop-column.invariant.wrote
+    (ap₂ pixel_bytes c.format_of-format.ensures value)
 
 pub loop-column-preserved : goal.loop-column-preserved
-unfolding bytes
 loop-column-preserved g c =
     let p = g.G.Grid.picture c.args.grid.now in
-    let h = shown p _ c.args.area _ _ _ _ (g.G.Grid.sound c.args.grid.now) c.kind-kind.ensures c.loop-column.invariant.0 c.sample-v.ensures.value in (
-      c.sample-v.ensures.kept ∙ c.loop-column.invariant.0,
-      g.G.Grid.keeps.both c.loop-column.invariant.1 c.sample-v.ensures.keeps,
-      put_as (run_more (bytes p c.args.area c.args.row) c.loop-column.column)
-          (put_then c.loop-column.invariant.2 (put_as (shown_bytes h) c.put_pixel-end.ensures)),
-    )
+    let value = c.sample-v.ensures.value ∙ ap (λ (q : Picture). q.at c.loop-column.column c.args.row) c.loop-column.invariant.asked.kept in
+    record {
+      asked = asked_then c.loop-column.invariant.asked c.sample-v.ensures.asked;
+      wrote = wrote_more (bytes p c.args.row) c.loop-column.column c.loop-column.invariant.wrote
+          (ap₂ pixel_bytes c.format_of-format.ensures value) c.put_pixel.ensures;
+    }

@@ -1,6 +1,6 @@
 use Rattle.std.proofs.Common.{Err, sym, ap, ◌∙◌}
 use Rattle.std.proofs.lemmas.Result.{err_from_is_err_and}
-use Rattle.entries.proofs.Looks.{looked_on}
+use Rattle.store.proofs.Looks.{looked_on}
 use Rattle.pages.specs.Pages.{laid_out, values_of}
 use Rattle.pages.specs.Segments.{filled}
 use Rattle.pages.proofs.Stages.{page_1, page_2, page_3, laid_offsets}

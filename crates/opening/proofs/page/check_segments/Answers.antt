@@ -1,7 +1,7 @@
 use Rattle.std.proofs.Common.{Err, sym, ap, ◌∙◌}
 use Rattle.std.proofs.lemmas.Result.{err_from_is_err_and}
+use Rattle.store.proofs.Looks.{looked_none, looked_on}
 use Rattle.links.proofs.Chaining.{then_err, then_ok}
-use Rattle.entries.proofs.Looks.{looked_none, looked_on}
 use Rattle.opening.proofs.Filling.{fill_start, fill_turn, fill_end}
 use Rattle.opening.proofs.page.check_segments.Goals as goal
 

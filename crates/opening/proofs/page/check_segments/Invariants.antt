@@ -1,5 +1,5 @@
 use Rattle.std.proofs.Common.{◌≡◌, ◌-◌}
-use Rattle.entries.specs.Looking.{Looked}
+use Rattle.store.specs.Looking.{Looked}
 use Rattle.pages.specs.Segments.{filled}
 use Rattle.opening.proofs.Filling.{filled_from}
 use Rattle.opening.proofs.page.check_segments.Given as goal

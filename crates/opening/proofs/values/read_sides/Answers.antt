@@ -1,6 +1,6 @@
 use Rattle.std.proofs.Common.{ap, ◌∙◌}
+use Rattle.store.proofs.Looks.{looked_on}
 use Rattle.entries.specs.Fields.{nth_or}
-use Rattle.entries.proofs.Looks.{looked_on}
 use Rattle.pages.specs.Pages.{sides_of}
 use Rattle.opening.proofs.values.read_sides.Goals as goal
 

@@ -1,5 +1,5 @@
 use Rattle.std.proofs.Common.{ap, ◌∙◌}
-use Rattle.entries.proofs.Looks.{looked_on}
+use Rattle.store.proofs.Looks.{looked_on}
 use Rattle.pages.specs.Pages.{sampling_of, sides_of}
 use Rattle.opening.proofs.values.read_values.Goals as goal
 

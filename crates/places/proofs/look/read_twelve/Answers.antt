@@ -1,6 +1,6 @@
 use Rattle.std.proofs.Common.{◌≡◌, ◌+◌, ◌-◌, ◌<◌, min, length, sym, ap, ◌∙◌, arith}
 use Rattle.std.proofs.lemmas.List.{get_or_past}
-use Rattle.entries.proofs.Looks.{looked_none}
+use Rattle.store.proofs.Looks.{looked_none}
 use Rattle.places.proofs.Entering.{zeros_byte, padded_byte}
 use Rattle.places.proofs.look.read_twelve.Goals as goal
 
@@ -12,7 +12,7 @@ returns-then-place-n g c =
     let h : c.args.place < length bs = omega (arith, c.if-place-n.true, c.length-n.ensures) in
     record {
       bytes = padded_byte bs c.fill.new.buffer c.args.place c.min-count.result 12 k h r.got;
-      looked = record { same = r.same; lists = r.lists; trails = r.trails };
+      looked = r.looked;
     }
 
 pub returns-else-place-n : goal.returns-else-place-n

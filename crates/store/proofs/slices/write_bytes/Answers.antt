@@ -1,17 +1,20 @@
-use Rattle.std.proofs.Common.{sym, refl, ◌∙◌, arith}
+use Rattle.std.proofs.Common.{sym, ◌∙◌, arith}
 use Rattle.std.proofs.lemmas.Bool.{leb-true, leb-false}
 use Rattle.octets.proofs.Patches.{overwritten}
 use Rattle.store.proofs.Lent.{length_counted}
 use Rattle.store.proofs.slices.write_bytes.Goals as goal
 
-pub returns-then-not-within : goal.returns-then-not-within
-returns-then-not-within c =
+pub returns-then-not-within-clause-answer : goal.returns-then-not-within-clause-answer
+returns-then-not-within-clause-answer c =
     let n = length_counted c.args.target.now in
     let h = leb-false _ _ (sym c.within.ensures ∙ c.if-not-within.true) in
-    record { answer = (omega arith, c.fault.ensures); put = refl }
+    (omega arith, c.fault.ensures)
 
-pub returns : goal.returns
-returns c =
+pub returns-clause-answer : goal.returns-clause-answer
+returns-clause-answer c =
     let n = length_counted c.args.target.now in
     let h = leb-true _ _ (sym c.within.ensures ∙ c.if-not-within.false) in
-    record { answer = omega arith; put = overwritten c.args.target.now c.args.bytes.now _ c.args.place c.copy_from_slice.ensures.after }
+    omega arith
+
+pub returns-clause-put : goal.returns-clause-put
+returns-clause-put c = overwritten c.args.target.now c.args.bytes.now _ c.args.place c.copy_from_slice.ensures.after

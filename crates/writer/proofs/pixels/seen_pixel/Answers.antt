@@ -18,9 +18,8 @@ returns g c =
     let row = c.below-column.result.1 in
     record {
       value =
-          ok_value (within p.width p.height column row) (p.at column row) c.in-Ok.v (bare Outside) (sym c.pixel.ensures.answer ∙ c.in-Ok.is)
+          ok_value (within p.width p.height column row) (p.at column row) c.unwrap.result (bare Outside) (sym c.pixel.ensures.answer ∙ c.unwrap.ensures)
           ∙ ap₂ p.at c.below-column.ensures.column c.below-column.ensures.row
           ∙ sym (seen_inside p v c.requires c.args.x c.args.y lx ly);
-      kept = c.pixel.ensures.kept;
-      keeps = c.pixel.ensures.keeps;
+      asked = record { kept = c.pixel.ensures.kept; keeps = c.pixel.ensures.keeps };
     }

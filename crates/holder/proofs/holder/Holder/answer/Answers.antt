@@ -9,8 +9,8 @@ use Rattle.holder.proofs.holder.Holder.answer.Goals as goal
 pub returns : goal.returns
 returns g c =
     let e = c.make-line.ensures in
-    let v = world_of g.C.Store.seen g.C.Store.may g.C.Store.trail c.args.self.now in
-    let w = world_of g.C.Store.seen g.C.Store.may g.C.Store.trail c.make-line.new.self in
+    let v = world_of g.C.Store c.args.self.now in
+    let w = world_of g.C.Store c.make-line.new.self in
     let p = picture_by g.C.Store.seen c.args.self.now in
     let call = c.args.line.now.call in
     let old : List ℕ = vec_items c.args.line.now.buffer in

@@ -10,14 +10,14 @@ use Rattle.drafts.specs.Mem.{Mem, mem_of}
 use Rattle.drafts.specs.Steps.{Step, Held, world, held, sized_for, spaced, draft_at, place_by}
 use Rattle.holder.specs.Worlds.{held_by, layout_in}
 use Rattle.holder.specs.Told.{told_begin, LiveBegin}
-use Rattle.holder.proofs.Calls.{still}
+use Rattle.holder.proofs.Calls.{still, looked_quiet}
 use Rattle.holder.proofs.Opens.{begin_err, begin_ok, room_by, room_pages, room_one, none_is}
 use Rattle.holder.proofs.holder.Holder.begin.Goals as goal
 
 pub returns-then-layout-ne1 : goal.returns-then-layout-ne1
 returns-then-layout-ne1 g c =
     let h : Held = held_by c.args.self.now.state in
-    let m : Mem = mem_of g.C.Store.seen g.C.Store.may g.C.Store.trail c.args.self.now.store in
+    let m : Mem = mem_of g.C.Store c.args.self.now.store in
     let l = c.in-Some.page.layout in
     let free : h.draft ≡ None = none_is c.args.self.now.state.draft (sym c.is_some.ensures ∙ c.if-is_some.false) in
     let several : eqb l.directories 1 ≡ false = ne_eqb l.directories 1 (λ e. c.if-layout-ne1.true (ap (λ x. x.directories) c.layout.ensures ∙ e)) in
@@ -30,7 +30,7 @@ returns-then-layout-ne1 g c =
 pub returns-in_err-size : goal.returns-in_err-size
 returns-in_err-size g c =
     let h : Held = held_by c.args.self.now.state in
-    let m : Mem = mem_of g.C.Store.seen g.C.Store.may g.C.Store.trail c.args.self.now.store in
+    let m : Mem = mem_of g.C.Store c.args.self.now.store in
     let l = c.in-Some.page.layout in
     let free : h.draft ≡ None = none_is c.args.self.now.state.draft (sym c.is_some.ensures ∙ c.if-is_some.false) in
     let one : eqb l.directories 1 ≡ true = eq-eqb l.directories 1 (sym (ap (λ x. x.directories) c.layout.ensures) ∙ c.if-layout-ne1.false) in
@@ -50,7 +50,7 @@ returns-in_err-size g c =
 pub returns-in_default-find_place : goal.returns-in_default-find_place
 returns-in_default-find_place g c =
     let h : Held = held_by c.args.self.now.state in
-    let m : Mem = mem_of g.C.Store.seen g.C.Store.may g.C.Store.trail c.args.self.now.store in
+    let m : Mem = mem_of g.C.Store c.args.self.now.store in
     let l = c.in-Some.page.layout in
     let free : h.draft ≡ None = none_is c.args.self.now.state.draft (sym c.is_some.ensures ∙ c.if-is_some.false) in
     let one : eqb l.directories 1 ≡ true = eq-eqb l.directories 1 (sym (ap (λ x. x.directories) c.layout.ensures) ∙ c.if-layout-ne1.false) in
@@ -58,7 +58,7 @@ returns-in_default-find_place g c =
     let place : place_of m.seen l c.in_ok-size.size ≡ None = sym c.find_place.ensures.value ∙ c.in_default-find_place.is in
     record {
       step = begin_err h c.args.view c.args.plan c.fault-in_default-find_place.result
-          (record { seen = c.find_place.ensures.same; may = c.find_place.ensures.lists; trail = c.find_place.ensures.trails })
+          (looked_quiet g.C.Store c.find_place.ensures.looked)
           (room_by m.seen h l c.args.view c.args.plan free (ap layout_in c.in-Some.is)
           ∙ room_one m.seen l c.args.view c.args.plan one
           ∙ ap (λ r. then r (λ size. spaced (place_of m.seen l size))) sized
@@ -69,8 +69,8 @@ returns-in_default-find_place g c =
 pub returns : goal.returns
 returns g c =
     let h : Held = held_by c.args.self.now.state in
-    let m : Mem = mem_of g.C.Store.seen g.C.Store.may g.C.Store.trail c.args.self.now.store in
-    let n : Mem = mem_of g.C.Store.seen g.C.Store.may g.C.Store.trail c.find_place.new.store in
+    let m : Mem = mem_of g.C.Store c.args.self.now.store in
+    let n : Mem = mem_of g.C.Store c.find_place.new.store in
     let l = c.in-Some.page.layout in
     let free : h.draft ≡ None = none_is c.args.self.now.state.draft (sym c.is_some.ensures ∙ c.if-is_some.false) in
     let one : eqb l.directories 1 ≡ true = eq-eqb l.directories 1 (sym (ap (λ x. x.directories) c.layout.ensures) ∙ c.if-layout-ne1.false) in
@@ -80,7 +80,7 @@ returns g c =
     record {
       step = subst (λ k. Step (Begin c.args.view c.args.plan) (world h m) (Ok (Number k)) (world (held h.page h.arrow (Some d)) n)) (sym c.sectors_of.ensures)
           (begin_ok h l c.args.view c.args.plan c.in_ok-size.size c.in-Some-find_place.place d
-          (record { seen = c.find_place.ensures.same; may = c.find_place.ensures.lists; trail = c.find_place.ensures.trails })
+          (looked_quiet g.C.Store c.find_place.ensures.looked)
           free (ap layout_in c.in-Some.is) one sized place refl);
       live = c.new.ensures;
     }

@@ -27,8 +27,8 @@ returns-in-Err g c = record {
 pub returns : goal.returns
 returns g c = record {
   step = λ s.
-      let m : Mem = mem_of g.C.Store.seen g.C.Store.may g.C.Store.trail c.args.self.now.store in
-      let n : Mem = mem_of g.C.Store.seen g.C.Store.may g.C.Store.trail c.put_sector.new.self.store in
+      let m : Mem = mem_of g.C.Store c.args.self.now.store in
+      let n : Mem = mem_of g.C.Store c.put_sector.new.self.store in
       let bs : List ℕ = m.seen in
       let d : Draft = c.in-Some.draft in
       let j = c.in-Begun.done in

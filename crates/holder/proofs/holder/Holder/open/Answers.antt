@@ -12,9 +12,9 @@ use Rattle.holder.proofs.holder.Holder.open.Goals as goal
 
 pub returns-in_err-found : goal.returns-in_err-found
 returns-in_err-found g c =
-    let m : Mem = mem_of g.S.Store.seen g.S.Store.may g.S.Store.trail c.args.self.now.store in
-    let n : Mem = mem_of g.S.Store.seen g.S.Store.may g.S.Store.trail c.open.new.store in
-    let s = opened_settled m n c.args.page c.open.result _ _ _ c.open.ensures.value c.open.ensures.same c.open.ensures.lists c.open.ensures.trails
+    let m : Mem = mem_of g.S.Store c.args.self.now.store in
+    let n : Mem = mem_of g.S.Store c.open.new.store in
+    let s = opened_settled m n c.args.page c.open.result _ _ _ c.open.ensures.value c.open.ensures.looked.same c.open.ensures.looked.lists c.open.ensures.looked.trails
     (search rules) (search rules) (search rules) in
     let f = err_from_is_err_and c.from_residual.result c.from_residual.ensures.1 in
     let told = f.1 ∙ ap Err f.2 in
@@ -22,17 +22,17 @@ returns-in_err-found g c =
     opened_err c.open.result (opened m.seen c.args.page) c.in_err-found.field-0.0 s.1 c.in_err-found.was in
     subst (λ r. Step (Open c.args.page) (world (held_by c.args.self.now.state) m) (told_open (picture_by g.S.Store.seen (record { store = c.open.new.store; state = c.args.self.now.state })) r) (world (held_by c.args.self.now.state) n))
     (sym told)
-    (open_err (held_by c.args.self.now.state) c.args.page c.in_err-found.field-0.0 (lawful g.S.Store.laws c.args.self.now.store) s.0 (sym c.is_some.ensures ∙ c.if-is_some.false) e)
+    (open_err (held_by c.args.self.now.state) c.args.page c.in_err-found.field-0.0 (lawful g.S.Store c.args.self.now.store) s.0 (sym c.is_some.ensures ∙ c.if-is_some.false) e)
 
 pub returns : goal.returns
 returns g c =
-    let m : Mem = mem_of g.S.Store.seen g.S.Store.may g.S.Store.trail c.args.self.now.store in
-    let n : Mem = mem_of g.S.Store.seen g.S.Store.may g.S.Store.trail c.open.new.store in
-    let s = opened_settled m n c.args.page c.open.result _ _ _ c.open.ensures.value c.open.ensures.same c.open.ensures.lists c.open.ensures.trails
+    let m : Mem = mem_of g.S.Store c.args.self.now.store in
+    let n : Mem = mem_of g.S.Store c.open.new.store in
+    let s = opened_settled m n c.args.page c.open.result _ _ _ c.open.ensures.value c.open.ensures.looked.same c.open.ensures.looked.lists c.open.ensures.looked.trails
     (search rules) (search rules) (search rules) in
     let l = c.in_ok-found.found.layout in
     let e : opened m.seen c.args.page ≡ Ok l =
     opened_ok c.open.result (opened m.seen c.args.page) c.in_ok-found.found s.1 c.in_ok-found.was in
     subst (λ t. Step (Open c.args.page) (world (held_by c.args.self.now.state) m) (Ok (sized (picture_of m.seen l))) (world (held (Some l) t c.args.self.now.state.draft) n))
     (sym c.orientation-self.ensures)
-    (open_ok (held_by c.args.self.now.state) c.args.page l (lawful g.S.Store.laws c.args.self.now.store) s.0 (sym c.is_some.ensures ∙ c.if-is_some.false) e)
+    (open_ok (held_by c.args.self.now.state) c.args.page l (lawful g.S.Store c.args.self.now.store) s.0 (sym c.is_some.ensures ∙ c.if-is_some.false) e)

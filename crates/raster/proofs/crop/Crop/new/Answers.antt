@@ -1,6 +1,5 @@
-use Rattle.std.proofs.Common.{refl}
 use Rattle.raster.proofs.Frames.{unchanged}
 use Rattle.raster.proofs.crop.Crop.new.Goals as goal
 
-pub returns : goal.returns
-returns g c = record { picture = refl; held = refl; unchanged = unchanged }
+pub returns-clause-unchanged : goal.returns-clause-unchanged
+returns-clause-unchanged g c = unchanged

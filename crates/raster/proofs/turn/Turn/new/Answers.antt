@@ -1,6 +1,5 @@
-use Rattle.std.proofs.Common.{refl}
 use Rattle.raster.proofs.Places.{eight}
 use Rattle.raster.proofs.turn.Turn.new.Goals as goal
 
-pub returns : goal.returns
-returns g c = record { picture = refl; held = refl; eight = eight }
+pub returns-clause-eight : goal.returns-clause-eight
+returns-clause-eight g c = eight
