@@ -8,30 +8,10 @@ impls and traits, and the definitions and theorems of specs/, each where it diff
 What it calls gone may stand under another name: docs/DESIGN-PASS.md says what states its promise.
 """
 import re
-import subprocess
 import sys
 from collections import OrderedDict
 
-ROOT = subprocess.run(["git", "rev-parse", "--show-toplevel"], capture_output=True, text=True).stdout.strip()
-
-
-def files(commit):
-    if commit:
-        names = subprocess.run(["git", "-C", ROOT, "ls-tree", "-r", "--name-only", commit, "crates"],
-                               capture_output=True, text=True).stdout.split()
-    else:
-        names = subprocess.run(["git", "-C", ROOT, "ls-files", "-co", "--exclude-standard", "crates"],
-                               capture_output=True, text=True).stdout.split()
-    for name in sorted(set(names)):
-        if not re.search(r"/(src/.*\.rt|specs/.*\.antt)$", name):
-            continue
-        if commit:
-            yield name, subprocess.run(["git", "-C", ROOT, "show", f"{commit}:{name}"], capture_output=True, text=True).stdout
-        else:
-            try:
-                yield name, open(f"{ROOT}/{name}").read()
-            except FileNotFoundError:
-                continue
+from tree import ROOT, files
 
 
 def without_comments(text, mark):
@@ -108,7 +88,7 @@ def antt(crate, text, out):
 
 def state(commit):
     out = OrderedDict()
-    for name, text in files(commit):
+    for name, text in files(commit, lambda name: re.search(r"/(src/.*\.rt|specs/.*\.antt)$", name)):
         crate = name.split("/")[1]
         (rattle if name.endswith(".rt") else antt)(crate, text, out)
     return out

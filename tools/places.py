@@ -6,31 +6,15 @@
 A pattern finds candidates: the page says of each whether it was changed, or is kept and why.
 """
 import re
-import subprocess
 import sys
 from collections import defaultdict
 
-ROOT = subprocess.run(["git", "rev-parse", "--show-toplevel"], capture_output=True, text=True).stdout.strip()
+from tree import files
 
 
 def sources(commit, ending, folder):
     """The files of a folder of each crate, with their lines."""
-    if commit:
-        names = subprocess.run(["git", "-C", ROOT, "ls-tree", "-r", "--name-only", commit, "crates"],
-                               capture_output=True, text=True).stdout.split()
-    else:
-        names = subprocess.run(["git", "-C", ROOT, "ls-files", "-co", "--exclude-standard", "crates"],
-                               capture_output=True, text=True).stdout.split()
-    for name in sorted(set(names)):
-        if not name.endswith(ending) or f"/{folder}/" not in name:
-            continue
-        try:
-            if commit:
-                text = subprocess.run(["git", "-C", ROOT, "show", f"{commit}:{name}"], capture_output=True, text=True).stdout
-            else:
-                text = open(f"{ROOT}/{name}").read()
-        except FileNotFoundError:
-            continue
+    for name, text in files(commit, lambda name: name.endswith(ending) and f"/{folder}/" in name):
         yield name, text.split("\n")
 
 
@@ -145,9 +129,9 @@ def main(words):
     if words[:1] == ["--at"]:
         commit, words = words[1], words[2:]
     wanted = set(words) or {"1", "2", "3", "4", "5", "6", "7", "8"}
-    files = list(sources(commit, ".rt", "src"))
+    code_files = list(sources(commit, ".rt", "src"))
     counts = defaultdict(int)
-    for name, lines in files:
+    for name, lines in code_files:
         for number, line in enumerate(lines, 1):
             for what, pattern in LINES.items():
                 if what[0] in wanted and re.search(pattern, code(line)):
@@ -158,12 +142,12 @@ def main(words):
                 print(f"4 {what}: {name}:{start + 1}: {lines[start].strip()}")
                 counts[f"4 {what}"] += 1
     if "2" in wanted:
-        for where in twins(files):
+        for where in twins(code_files):
             print("2 alike: " + "; ".join(where))
             counts["2 group of functions alike"] += 1
             counts["2 function alike to another"] += len(where)
     if "5" in wanted:
-        for what, where, key in clauses(files):
+        for what, where, key in clauses(code_files):
             print(f"{what}: {where}: {key}")
             counts[what] += 1
     if "8" in wanted:
