@@ -1,5 +1,6 @@
 -- What holds of the directories of an accepted file.
-use Rattle.std.proofs.Common.{◌≡◌, ℕ, zero, suc, ◌<◌, ◌≤◌, true, false, leb, List, [], ◌∷◌, length, get_or, take, Ok, Err, arith}
+use Rattle.std.proofs.Common.{◌≡◌, ℕ, zero, suc, ◌<◌, ◌≤◌, true, false, leb, List, [], ◌∷◌, length, get_or, take, Ok, Err, sym, ap, ◌∙◌, subst, arith}
+use Rattle.std.proofs.lemmas.List.{get_or-take}
 use Rattle.std.proofs.lemmas.Bool.{le-leb, lt-leb}
 use Rattle.octets.specs.declared.endian.Endian.{Endian}
 use Rattle.octets.specs.Numbers.{long}
@@ -9,29 +10,39 @@ use Rattle.links.specs.declared.directories.Directories.{Directories}
 use Rattle.links.specs.Links.{magic, listed, places_of, placed, walked}
 use Rattle.links.specs.Chain.{Stands, link_of, link_to}
 use Rattle.links.proofs.Found.{walked_linked, linked_found}
+use Rattle.links.proofs.Listing.{count_listed}
 
 module _ (bs : List ℕ) (d : Directories) (e : walked bs ≡ Ok d) where
-  -- 1 to 32 directories
-  pub accepted_some : 1 ≤ length (places_of d)
-  accepted_some = (walked_linked bs d e).0.some
+  -- as many places as are counted
+  pub accepted_count : length (places_of d) ≡ d.count
+  accepted_count = sym (ap (λ x. x.count) (walked_linked bs d e).1 ∙ count_listed d.endian (places_of d))
 
-  pub accepted_few : length (places_of d) ≤ 32
-  accepted_few = (walked_linked bs d e).0.few
+  -- 1 to 32 directories
+  pub accepted_some : 1 ≤ d.count
+  accepted_some = omega (arith, accepted_count, (walked_linked bs d e).0.some)
+
+  pub accepted_few : d.count ≤ 32
+  accepted_few = omega (arith, accepted_count, (walked_linked bs d e).0.few)
 
   -- each stands in the file
-  pub accepted_stands : (k : ℕ) → k < length (places_of d) → Stands d.endian bs (get_or (places_of d) k 0)
-  accepted_stands = (walked_linked bs d e).0.each
+  pub accepted_stands : (k : ℕ) → k < d.count → Stands d.endian bs (get_or d.places k 0)
+  accepted_stands k h =
+      subst (Stands d.endian bs) (get_or-take d.count d.places k 0 h)
+      ((walked_linked bs d e).0.each k (omega (arith, accepted_count)))
 
   -- there is room for a header
   pub accepted_long : 8 ≤ length bs
   accepted_long = let s = accepted_stands 0 accepted_some in omega (arith, s.past, s.within)
 
--- the place of a page
-pub page_placed : (d : Directories) (page : ℕ) → page < length (places_of d) → placed d page ≡ Ok (get_or (places_of d) page 0)
-page_placed d page h = let a : leb (length (places_of d)) page ≡ false = lt-leb _ page h in simp a
+  -- the place of a page
+  pub accepted_page : (page : ℕ) → page < d.count → placed d page ≡ Ok (get_or d.places page 0)
+  accepted_page page h =
+      let a : leb d.count page ≡ false = lt-leb d.count page h in
+      let b : leb 32 page ≡ false = lt-leb 32 page (omega (arith, accepted_few)) in
+      simp (a, b)
 
-pub page_missing : (d : Directories) (page : ℕ) → length (places_of d) ≤ page → placed d page ≡ Err (bare Page)
-page_missing d page h = let a : leb (length (places_of d)) page ≡ true = le-leb _ page h in simp a
+  pub accepted_no_page : (page : ℕ) → d.count ≤ page → placed d page ≡ Err (bare Page)
+  accepted_no_page page h = let a : leb d.count page ≡ true = le-leb d.count page h in simp a
 
 -- a file whose header links to a directory with a link of 0 has that one directory
 pub one_directory : (bs : List ℕ) (o : Endian) (place : ℕ) → take 4 bs ≡ magic o → long o bs 4 ≡ place → Stands o bs place → long o bs (link_of o bs place) ≡ 0 → walked bs ≡ Ok (listed o (place ∷ []))

@@ -16,7 +16,7 @@ use Rattle.links.specs.Links.{magic, named, headed, has, ended, followed, walk_f
 use Rattle.links.specs.Chain.{Stands, link_of, link_to, WellLinked, ChainFound}
 use Rattle.links.proofs.Chaining.{then_ok, then_was, passed}
 use Rattle.links.proofs.Following.{turn_ends, turn_goes}
-use Rattle.links.proofs.Listing.{walk_on, walk_was}
+use Rattle.links.proofs.Listing.{walk_on, walk_was, places_listed, endian_listed}
 
 -- what stands in a list
 has_at : (xs : List ℕ) (x k : ℕ) → k < length xs → get_or xs k 0 ≡ x → has xs x ≡ true
@@ -215,10 +215,16 @@ module _ (bs : List ℕ) (o : Endian) (ds : List ℕ) (w : WellLinked bs o ds) w
       walk_on bs o (magic_headed bs o linked_long w.header)
       ∙ then_ok (chained o bs) (λ ds. Ok (listed o ds)) ds (found_from (length ds) 0 32 (omega arith) w.few)
 
+listed_linked : (bs : List ℕ) (o : Endian) (ds : List ℕ) → WellLinked bs o ds → WellLinked bs (listed o ds).endian (places_of (listed o ds)) × (listed o ds ≡ listed (listed o ds).endian (places_of (listed o ds)))
+listed_linked bs o ds w = (
+  subst (λ p. WellLinked bs p (places_of (listed o ds))) (sym (endian_listed o ds)) (subst (WellLinked bs o) (sym (places_listed o ds)) w),
+  sym (ap (λ p. listed p (places_of (listed o ds))) (endian_listed o ds) ∙ ap (listed o) (places_listed o ds)),
+)
+
 pub walked_linked : (bs : List ℕ) (d : Directories) → walked bs ≡ Ok d → WellLinked bs d.endian (places_of d) × (d ≡ listed d.endian (places_of d))
 walked_linked bs d e =
     let t = walk_was bs d e in
-    (subst (λ x. WellLinked bs x.endian (places_of x)) (sym t.4) (found_linked bs t.0 t.1 t.2 t.3), refl)
+    subst (λ x. WellLinked bs x.endian (places_of x) × (x ≡ listed x.endian (places_of x))) (sym t.4) (listed_linked bs t.0 t.1 (found_linked bs t.0 t.1 t.2 t.3))
 
 pub chain_found : (bs : List ℕ) → ChainFound bs
 chain_found bs = record { sound = walked_linked bs; complete = λ o ds w. linked_found bs o ds w }

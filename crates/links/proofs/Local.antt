@@ -1,11 +1,12 @@
 -- The directories of a file depend on its header and on their counts and links alone.
-use Rattle.std.proofs.Common.{◌≡◌, ℕ, zero, suc, ◌+◌, ◌*◌, ◌<◌, ◌≤◌, min, List, length, get_or, take, sym, ap, ◌∙◌, subst, zero-add, arith}
+use Rattle.std.proofs.Common.{◌≡◌, ℕ, zero, suc, ◌+◌, ◌*◌, ◌<◌, ◌≤◌, min, List, length, get_or, take, Ok, sym, ap, ◌∙◌, subst, zero-add, arith}
 use Rattle.std.proofs.lemmas.List.{ext_get_or, get_or-take, length-take}
 use Rattle.octets.specs.declared.endian.Endian.{Endian}
 use Rattle.octets.specs.Numbers.{short, long}
 use Rattle.octets.specs.Rows.{byte}
 use Rattle.reads.specs.Agree.{Agree}
 use Rattle.reads.proofs.Agreeing.{short_agrees, long_agrees, agree_in}
+use Rattle.links.specs.declared.directories.Directories.{Directories}
 use Rattle.links.specs.Links.{entries_end, places_of}
 use Rattle.links.specs.Chain.{Stands, link_of, link_to, WellLinked, ChainLocal}
 use Rattle.links.proofs.Found.{walked_linked, linked_found}
@@ -48,7 +49,18 @@ module _ (bs cs : List ℕ) (o : Endian) (ds : List ℕ) (l : length bs ≡ leng
     each = λ k h. stands_same o bs cs (get_or ds k 0) l (same_count k h) (w.each k h);
   }
 
+-- a place among those that are held
+place_held : (d : Directories) (k : ℕ) → k < length (places_of d) → (k < d.count) × (get_or d.places k 0 ≡ get_or (places_of d) k 0)
+place_held d k h =
+    let m : k < d.count = omega (arith, length-take d.count d.places) in
+    (m, sym (get_or-take d.count d.places k 0 m))
+
 pub chain_local : ChainLocal
 chain_local bs cs d e s =
     let w = walked_linked bs d e in
-    linked_found cs d.endian (places_of d) (linked_same bs cs d.endian (places_of d) s.long s.header s.counts s.links w.0)
+    let o = d.endian in
+    let counts : (k : ℕ) → k < length (places_of d) → Agree bs cs (get_or (places_of d) k 0) 2 =
+    λ k h. let p = place_held d k h in subst (λ x. Agree bs cs x 2) p.1 (s.counts k p.0) in
+    let links : (k : ℕ) → k < length (places_of d) → Agree bs cs (link_of o bs (get_or (places_of d) k 0)) 4 =
+    λ k h. let p = place_held d k h in subst (λ x. Agree bs cs (link_of o bs x) 4) p.1 (s.links k p.0) in
+    linked_found cs o (places_of d) (linked_same bs cs o (places_of d) s.long s.header counts links w.0) ∙ ap Ok (sym w.1)

@@ -47,8 +47,8 @@ pub record ChainFound (bs : List ℕ) : Type 0 where
 pub record SameChain (bs cs : List ℕ) (d : Directories) : Type 0 where
   pub long : length bs ≡ length cs
   pub header : Agree bs cs 0 8
-  pub counts : (k : ℕ) → k < length (places_of d) → Agree bs cs (slice_index (places_of d) k) 2
-  pub links : (k : ℕ) → k < length (places_of d) → Agree bs cs (link_of d.endian bs (slice_index (places_of d) k)) 4
+  pub counts : (k : ℕ) → k < d.count → Agree bs cs (slice_index d.places k) 2
+  pub links : (k : ℕ) → k < d.count → Agree bs cs (link_of d.endian bs (slice_index d.places k)) 4
 
 -- then the walk finds the same directories in both
 abbrev pub ChainLocal : Type 0

@@ -1,5 +1,5 @@
 -- The header of a file and the walk along the links from directory to directory. Assumes nothing.
-use Rattle.std.specs.Prelude.{ℕ, zero, suc, ◌+◌, ◌*◌, ◌%◌, Bool, false, cond, ◌&&◌, ◌||◌, List, [], ◌∷◌, ◌++◌, length, take, Ok, Err, Result, ◌==◌, nat_le, nat_lt, slice_index}
+use Rattle.std.specs.Prelude.{ℕ, zero, suc, ◌+◌, ◌-◌, ◌*◌, ◌%◌, Bool, false, cond, ◌&&◌, ◌||◌, List, [], ◌∷◌, ◌++◌, length, take, replicate, Ok, Err, Result, ◌==◌, nat_le, nat_lt, slice_index}
 use Rattle.std.specs.Str.{bytes_eq}
 use Rattle.octets.specs.declared.endian.Endian.{Endian}
 use Rattle.octets.specs.declared.endian.Endian.TheVariants.{Little, Big}
@@ -79,13 +79,13 @@ walk_from (suc turns) o bs met field =
 abbrev pub chained : Endian → List ℕ → Result (List ℕ) Fault
 chained o bs = walk_from 33 o bs [] 4
 
+-- the directories at the places ds, as the code holds them: zeros after the last
+unfoldable pub listed : Endian → List ℕ → Directories
+listed o ds = record { endian = o; count = length ds; places = ds ++ replicate (32 - length ds) 0 }
+
 -- the places of the directories that are held
 abbrev pub places_of : Directories → List ℕ
-places_of d = d.places.items
-
--- the directories at the places ds, as the code holds them
-abbrev pub listed : Endian → List ℕ → Directories
-listed o ds = record { endian = o; places = record { items = ds } }
+places_of d = take d.count d.places
 
 -- the directories of a file in a byte order, or the first fault
 abbrev pub linked : Endian → List ℕ → Result Directories Fault
@@ -95,6 +95,6 @@ linked o bs = then (chained o bs) (λ ds. Ok (listed o ds))
 unfoldable pub walked : List ℕ → Result Directories Fault
 walked bs = then (headed bs) (λ o. linked o bs)
 
--- the place of a page's directory, refused where there is none
+-- the place of a page's directory, refused where there is none: not below the count, nor below 32
 abbrev pub placed : Directories → ℕ → Result ℕ Fault
-placed d page = refused (nat_le (length (places_of d)) page) (bare Page) (Ok (slice_index (places_of d) page))
+placed d page = refused (nat_le d.count page || nat_le 32 page) (bare Page) (Ok (slice_index d.places page))

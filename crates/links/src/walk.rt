@@ -1,7 +1,7 @@
 // The checks of the header and of the links.
 ghost use Rattle.std.specs.Prelude.{◌≡◌, ℕ, ◌≤◌, List, length};
 ghost use Rattle.store.specs.Looking.{Looked};
-ghost use Rattle.links.specs.Links.{named, headed, has, stray, bad_count, link_checked, directory_checked, followed, linked, walked};
+ghost use Rattle.links.specs.Links.{named, headed, has, stray, bad_count, link_checked, directory_checked, followed, listed, linked, walked};
 ghost use Rattle.links.specs.Chain.{ChainFound, ChainLocal};
 
 use crate::directories::{Directories, MOST};
@@ -102,6 +102,19 @@ fn follow<S: Store>(
     check_directory(n, met.len() as u32, link, entries)
 }
 
+// The directories at the places met.
+fn list_places(endian: Endian, met: &ArrayVec<u32, MOST>) -> Directories
+    ensures { result ≡ listed endian met.now.items }
+{
+    let mut places = [0u32; MOST];
+    places[..met.len()].copy_from_slice(met);
+    Directories {
+        endian,
+        count: met.len() as u32,
+        places,
+    }
+}
+
 // The directories of a file of a byte order, or the first fault.
 fn follow_links<S: Store>(store: &mut S, endian: Endian) -> Result<Directories, Fault>
     requires { 8 ≤ length (S.Store.seen store.old) }
@@ -114,7 +127,7 @@ fn follow_links<S: Store>(store: &mut S, endian: Endian) -> Result<Directories, 
     loop {
         let link: u32 = read(store, endian, field);
         if link == 0 && !places.is_empty() {
-            return Ok(Directories { endian, places });
+            return Ok(list_places(endian, &places));
         }
         field = follow(store, endian, &places, field, link)?;
         places.push(link);

@@ -56,7 +56,7 @@ returns-then-not-is_empty g c =
     let e : ended met (long o bs l.field) ≡ true = grind (arith, nat_tests) in
     let d = sym (turns_left o bs met l.field (length met) l.invariant.3 ∙ turn_ends o bs met l.field (32 - length met) e) ∙ l.invariant.0 in
     record {
-      value = ap (λ r. then r (λ ds. Ok (listed o ds))) d;
+      value = ap Ok c.list_places.ensures ∙ ap (λ r. then r (λ ds. Ok (listed o ds))) d;
       looked = looked_on _ _ _ _ _ _ l.invariant.1 c.read-link.ensures.looked;
     }
 
