@@ -1,6 +1,6 @@
 -- The stages of a page's checks, one after another.
-use Rattle.std.proofs.Common.{◌≡◌, ℕ, ◌+◌, ◌*◌, ◌≤◌, not, eqb, ltb, leb, List, length, get_or, Ok, Err, Result, sym, ap, ◌∙◌, subst, arith}
-use Rattle.std.proofs.lemmas.Bool.{not-false, eqb-true, leb-false, ltb-false}
+use Rattle.std.proofs.Common.{◌≡◌, ℕ, ◌+◌, ◌*◌, ◌≤◌, not, ◌||◌, eqb, ltb, leb, List, length, get_or, Ok, Err, Result, sym, ap, ◌∙◌, subst, arith}
+use Rattle.std.proofs.lemmas.Bool.{not-false, eqb-true, or_parts, leb-false, ltb-false}
 use Rattle.faults.specs.declared.fault.Fault.{Fault}
 use Rattle.faults.specs.declared.fault.Check.TheVariants.{Page, Tally}
 use Rattle.faults.specs.Faults.{bare, refused, then}
@@ -12,7 +12,7 @@ use Rattle.links.proofs.Chaining.{then_was, passed}
 use Rattle.links.proofs.Accepted.{accepted_stands}
 use Rattle.links.specs.Chain.{Stands}
 use Rattle.links.specs.declared.directories.Directories.{Directories}
-use Rattle.links.specs.Links.{walked, placed, places_of}
+use Rattle.links.specs.Links.{walked, placed}
 use Rattle.entries.specs.declared.entry.Directory.{Directory}
 use Rattle.entries.specs.declared.fields.Fields.{Fields}
 use Rattle.entries.specs.Fields.{fielded}
@@ -46,11 +46,11 @@ module _ (bs : List ℕ) (page : ℕ) where
   module _ (ds : Directories) (a : walked bs ≡ Ok ds) where
     pub open_2 : (f : Fault) → placed ds page ≡ Err f → opened bs page ≡ Err f
     unfolding opened
-    open_2 f b = ap (λ r. then r (λ ds. then (placed ds page) (λ place. page_at ds.endian bs (length (places_of ds)) page place))) a ∙ ap (λ r. then r (λ place. page_at ds.endian bs (length (places_of ds)) page place)) b
+    open_2 f b = ap (λ r. then r (λ ds. then (placed ds page) (λ place. page_at ds.endian bs ds.count page place))) a ∙ ap (λ r. then r (λ place. page_at ds.endian bs ds.count page place)) b
 
-    pub open_3 : (place : ℕ) → placed ds page ≡ Ok place → opened bs page ≡ page_at ds.endian bs (length (places_of ds)) page place
+    pub open_3 : (place : ℕ) → placed ds page ≡ Ok place → opened bs page ≡ page_at ds.endian bs ds.count page place
     unfolding opened
-    open_3 place b = ap (λ r. then r (λ ds. then (placed ds page) (λ place. page_at ds.endian bs (length (places_of ds)) page place))) a ∙ ap (λ r. then r (λ place. page_at ds.endian bs (length (places_of ds)) page place)) b
+    open_3 place b = ap (λ r. then r (λ ds. then (placed ds page) (λ place. page_at ds.endian bs ds.count page place))) a ∙ ap (λ r. then r (λ place. page_at ds.endian bs ds.count page place)) b
 
 -- an accepted tally has one offset and one byte count a segment, and few segments
 pub record Tallied (m : Layout) : Type 0 where
@@ -90,10 +90,11 @@ laid_offsets d directories fs v l e =
 -- an accepted directory stands in the file
 pub place_stands : (bs : List ℕ) (ds : Directories) (page place : ℕ) → walked bs ≡ Ok ds → placed ds page ≡ Ok place → Stands ds.endian bs place
 place_stands bs ds page place w p =
-    let a = passed (leb (length (places_of ds)) page) (bare Page) (Ok (get_or (places_of ds) page 0)) place p in
-    let z : ◌≡◌ {A = Result ℕ Fault} (Ok (get_or (places_of ds) page 0)) (Ok place) = a.1 in
-    let e : get_or (places_of ds) page 0 ≡ place = cc in
-    subst (λ x. Stands ds.endian bs x) e (accepted_stands bs ds w page (leb-false (length (places_of ds)) page a.0))
+    let a = passed (leb ds.count page || leb 32 page) (bare Page) (Ok (get_or ds.places page 0)) place p in
+    let b = or_parts (leb ds.count page) (leb 32 page) a.0 in
+    let z : ◌≡◌ {A = Result ℕ Fault} (Ok (get_or ds.places page 0)) (Ok place) = a.1 in
+    let e : get_or ds.places page 0 ≡ place = cc in
+    subst (λ x. Stands ds.endian bs x) e (accepted_stands bs ds w page (leb-false ds.count page b.0))
 
 -- the number of its entries, as it is read, and that they lie in the file
 pub entries_read : (o : Endian) (bs : List ℕ) (place n : ℕ) → Stands o bs place → n ≡ short_at o bs place → (n ≡ short o bs place) × (place + 2 + 12 * n ≤ length bs)

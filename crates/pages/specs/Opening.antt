@@ -1,9 +1,9 @@
 -- What the opening of a page answers. Assumes nothing.
-use Rattle.std.specs.Prelude.{◌≡◌, ℕ, List, length, Ok, Result}
+use Rattle.std.specs.Prelude.{◌≡◌, ℕ, List, Ok, Result}
 use Rattle.faults.specs.declared.fault.Fault.{Fault}
 use Rattle.faults.specs.Faults.{then}
 use Rattle.octets.specs.declared.endian.Endian.{Endian}
-use Rattle.links.specs.Links.{walked, placed, places_of}
+use Rattle.links.specs.Links.{walked, placed}
 use Rattle.entries.specs.declared.entry.Directory.{Directory}
 use Rattle.entries.specs.Entries.{directory_at}
 use Rattle.entries.specs.Fields.{fielded}
@@ -28,7 +28,7 @@ unfoldable pub opened : List ℕ → ℕ → Result Layout Fault
 opened bs page =
     then (walked bs) (λ ds.
     then (placed ds page) (λ place.
-    page_at ds.endian bs (length (places_of ds)) page place))
+    page_at ds.endian bs ds.count page place))
 
 -- the bytes have a page of this layout at its directory's place, whatever their header
 abbrev pub HasPage : List ℕ → Layout → Type 0
