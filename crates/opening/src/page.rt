@@ -79,7 +79,7 @@ pub fn open_page<S: Store>(store: &mut S, page: u32) -> Result<Layout, Fault>
     let entries: u16 = read(store, endian, place);
     check_page(
         store,
-        directories.count(),
+        directories.count,
         Directory {
             endian,
             page,

@@ -3,7 +3,6 @@ use Rattle.std.proofs.lemmas.Result.{err_from_is_err_and}
 use Rattle.store.proofs.Looks.{looked_on}
 use Rattle.reads.specs.Reads.{short_at}
 use Rattle.reads.proofs.Parts.{short_is}
-use Rattle.links.specs.Links.{places_of}
 use Rattle.pages.specs.Opening.{page_of}
 use Rattle.pages.proofs.Stages.{open_1, open_2, open_3, place_stands, entries_read}
 use Rattle.opening.proofs.page.open_page.Goals as goal
@@ -56,9 +55,8 @@ returns g c =
     record {
       value =
           p.value
-          ∙ ap (λ m. page_of (g.S.Store.seen c.read-entries.new.store) m record { endian = ds.endian; page = page; place = place; entries = n }) c.count.ensures
-          ∙ ap (λ xs. page_of xs (length (places_of ds)) record { endian = ds.endian; page = page; place = place; entries = n }) k.same
-          ∙ ap (λ m. page_of bs (length (places_of ds)) record { endian = ds.endian; page = page; place = place; entries = m }) e.0
+          ∙ ap (λ xs. page_of xs ds.count record { endian = ds.endian; page = page; place = place; entries = n }) k.same
+          ∙ ap (λ m. page_of bs ds.count record { endian = ds.endian; page = page; place = place; entries = m }) e.0
           ∙ sym (open_3 bs page ds a place b);
       looked = looked_on _ _ _ _ _ _ k p.looked;
     }
