@@ -4,8 +4,8 @@ use Rattle.octets.specs.Numbers.{short}
 use Rattle.reads.specs.Agree.{Agree}
 use Rattle.reads.proofs.Agreeing.{short_agrees, agree_in}
 use Rattle.links.specs.Chain.{link_of}
-use Rattle.links.specs.Links.{walked, places_of}
-use Rattle.links.proofs.Accepted.{page_placed}
+use Rattle.links.specs.Links.{walked}
+use Rattle.links.proofs.Accepted.{accepted_page}
 use Rattle.links.proofs.Local.{chain_local}
 use Rattle.entries.specs.declared.entry.Directory.{Directory}
 use Rattle.entries.specs.Entries.{directory_at}
@@ -52,29 +52,29 @@ pub page_stands : PageStands
 page_stands bs page l e =
     let x = opened_was bs page l e in
     let ds = x.found in
-    let place = get_or (places_of ds) page 0 in
-    let k = page_knows bs (length (places_of ds)) (directory_at ds.endian bs page place) l x.accepted in
+    let place = get_or ds.places page 0 in
+    let k = page_knows bs ds.count (directory_at ds.endian bs page place) l x.accepted in
     (λ i. page_at (k.0 i).endian bs (k.1 i) (k.0 i).page (k.0 i).place) ∙ x.accepted
 
 pub opening_local : OpeningLocal
 opening_local bs cs l e one len header agree =
     let x = opened_was bs 0 l e in
     let ds = x.found in
-    let place = get_or (places_of ds) 0 0 in
-    let k = page_knows bs (length (places_of ds)) (directory_at ds.endian bs 0 place) l x.accepted in
+    let place = get_or ds.places 0 0 in
+    let k = page_knows bs ds.count (directory_at ds.endian bs 0 place) l x.accepted in
     let h = page_stands bs 0 l e in
     let at : l.directory.place ≡ place = ap (λ y. y.place) k.0 in
     let n : l.directory.entries ≡ short ds.endian bs place = ap (λ y. y.entries) k.0 in
     let w : Agree bs cs l.directory.place (6 + 12 * l.directory.entries) = directory_same bs cs l (has_paged bs l h) len agree in
     let whole : Agree bs cs place (6 + 12 * short ds.endian bs place) = subst (λ y. Agree bs cs y.place (6 + 12 * y.entries)) k.0 w in
-    let first : (j : ℕ) → j < (length (places_of ds)) → j ≡ 0 = λ j m. omega (arith, k.1, one, m) in
+    let first : (j : ℕ) → j < ds.count → j ≡ 0 = λ j m. omega (arith, k.1, one, m) in
     let walks : walked cs ≡ Ok ds = chain_local bs cs ds x.walks record {
       long = sym len;
       header = header;
-      counts = λ j m. subst (λ q. Agree bs cs (get_or (places_of ds) q 0) 2) (sym (first j m)) (agree_in bs cs place (6 + 12 * short ds.endian bs place) place 2 (omega arith) (omega arith) whole);
-      links = λ j m. subst (λ q. Agree bs cs (link_of ds.endian bs (get_or (places_of ds) q 0)) 4) (sym (first j m))
+      counts = λ j m. subst (λ q. Agree bs cs (get_or ds.places q 0) 2) (sym (first j m)) (agree_in bs cs place (6 + 12 * short ds.endian bs place) place 2 (omega arith) (omega arith) whole);
+      links = λ j m. subst (λ q. Agree bs cs (link_of ds.endian bs (get_or ds.places q 0)) 4) (sym (first j m))
           (agree_in bs cs place (6 + 12 * short ds.endian bs place) (place + 2 + 12 * short ds.endian bs place) 4 (omega arith) (omega arith) whole);
     } in
-    open_3 cs 0 ds walks place (page_placed ds 0 x.there)
+    open_3 cs 0 ds walks place (accepted_page cs ds walks 0 x.there)
     ∙ sym (λ i. page_at (k.0 i).endian cs (k.1 i) (k.0 i).page (k.0 i).place)
     ∙ (page_local bs cs l h len agree).0

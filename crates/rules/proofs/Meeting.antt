@@ -1,6 +1,7 @@
 -- A page is accepted exactly if it meets the rules.
-use Rattle.std.proofs.Common.{◌≡◌, ℕ, ◌<◌, leb, List, length, get_or, Ok, Result, sym, ap, ◌∙◌, subst}
-use Rattle.std.proofs.lemmas.Bool.{leb-false}
+use Rattle.std.proofs.Common.{◌≡◌, ℕ, ◌<◌, ◌||◌, leb, List, length, get_or, Ok, Result, sym, ap, ◌∙◌, subst, arith}
+use Rattle.std.proofs.lemmas.List.{get_or-take}
+use Rattle.std.proofs.lemmas.Bool.{leb-false, or_parts}
 use Rattle.faults.specs.declared.fault.Check.TheVariants.{Page}
 use Rattle.faults.specs.declared.fault.Fault.{Fault}
 use Rattle.faults.specs.Faults.{bare, then}
@@ -8,9 +9,10 @@ use Rattle.raster.specs.declared.grid.Kind.{Kind}
 use Rattle.raster.specs.Picture.{kind_of}
 use Rattle.links.specs.declared.directories.Directories.{Directories}
 use Rattle.links.specs.Links.{walked, placed, listed, places_of}
-use Rattle.links.proofs.Accepted.{page_placed}
+use Rattle.links.proofs.Accepted.{accepted_count, accepted_page}
 use Rattle.links.proofs.Chaining.{then_was, passed}
 use Rattle.links.proofs.Found.{walked_linked, linked_found}
+use Rattle.links.proofs.Listing.{endian_listed, count_listed, place_listed}
 use Rattle.entries.specs.declared.entry.Directory.{Directory}
 use Rattle.entries.specs.declared.fields.Fields.{Fields}
 use Rattle.entries.specs.declared.fields.Numbers.{Numbers}
@@ -127,32 +129,36 @@ page_ok bs n d r =
 pub record Opened (bs : List ℕ) (page : ℕ) (l : Layout) : Type 0 where
   pub found : Directories
   pub walks : walked bs ≡ Ok found
-  pub there : page < (length (places_of found))
-  pub accepted : page_at found.endian bs (length (places_of found)) page (get_or (places_of found) page 0) ≡ Ok l
+  pub there : page < found.count
+  pub accepted : page_at found.endian bs found.count page (get_or found.places page 0) ≡ Ok l
 
 pub opened_was : (bs : List ℕ) (page : ℕ) (l : Layout) → opened bs page ≡ Ok l → Opened bs page l
 unfolding opened
 opened_was bs page l e =
-    let a = then_was (walked bs) (λ ds. then (placed ds page) (λ place. page_at ds.endian bs (length (places_of ds)) page place)) l e in
+    let a = then_was (walked bs) (λ ds. then (placed ds page) (λ place. page_at ds.endian bs ds.count page place)) l e in
     let ds = a.0 in
-    let b = then_was (placed ds page) (λ place. page_at ds.endian bs (length (places_of ds)) page place) l a.2 in
-    let c = passed (leb (length (places_of ds)) page) (bare Page) (Ok (get_or (places_of ds) page 0)) b.0 b.1 in
-    let z : ◌≡◌ {A = Result ℕ Fault} (Ok (get_or (places_of ds) page 0)) (Ok b.0) = c.1 in
-    let w : get_or (places_of ds) page 0 ≡ b.0 = cc in
+    let b = then_was (placed ds page) (λ place. page_at ds.endian bs ds.count page place) l a.2 in
+    let c = passed (leb ds.count page || leb 32 page) (bare Page) (Ok (get_or ds.places page 0)) b.0 b.1 in
+    let z : ◌≡◌ {A = Result ℕ Fault} (Ok (get_or ds.places page 0)) (Ok b.0) = c.1 in
+    let w : get_or ds.places page 0 ≡ b.0 = cc in
+    let h = or_parts (leb ds.count page) (leb 32 page) c.0 in
     record {
       found = ds;
       walks = a.1;
-      there = leb-false (length (places_of ds)) page c.0;
-      accepted = ap (page_at ds.endian bs (length (places_of ds)) page) w ∙ b.2;
+      there = leb-false ds.count page h.0;
+      accepted = ap (page_at ds.endian bs ds.count page) w ∙ b.2;
     }
 
 meets : (bs : List ℕ) (page : ℕ) (l : Layout) → opened bs page ≡ Ok l → (m : MeetsRules bs page) × (layout_by bs page m ≡ l)
 meets bs page l e =
     let x = opened_was bs page l e in
     let ds = x.found in
+    let n : length (places_of ds) ≡ ds.count = accepted_count bs ds x.walks in
+    let p : get_or (places_of ds) page 0 ≡ get_or ds.places page 0 = get_or-take ds.count ds.places page 0 x.there in
+    let here : page_at ds.endian bs (length (places_of ds)) page (get_or (places_of ds) page 0) ≡ Ok l = (λ i. page_at ds.endian bs (n i) page (p i)) ∙ x.accepted in
     let d : Directory = directory_at ds.endian bs page (get_or (places_of ds) page 0) in
-    let r = rules_of bs (length (places_of ds)) d l (page_was bs (length (places_of ds)) d l x.accepted) in (
-      record { order = ds.endian; places = places_of ds; linked = (walked_linked bs ds x.walks).0; there = x.there; rules = r.0 },
+    let r = rules_of bs (length (places_of ds)) d l (page_was bs (length (places_of ds)) d l here) in (
+      record { order = ds.endian; places = places_of ds; linked = (walked_linked bs ds x.walks).0; there = omega (arith, n, x.there); rules = r.0 },
       r.1,
     )
 
@@ -160,7 +166,12 @@ accepts : (bs : List ℕ) (page : ℕ) (m : MeetsRules bs page) → opened bs pa
 accepts bs page m =
     let ds = listed m.order m.places in
     let w = linked_found bs m.order m.places m.linked in
-    open_3 bs page ds w (get_or m.places page 0) (page_placed ds page m.there)
+    let n = count_listed m.order m.places in
+    let p = place_listed m.order m.places page m.there in
+    let o = endian_listed m.order m.places in
+    let h : page < ds.count = omega (arith, n, m.there) in
+    open_3 bs page ds w (get_or ds.places page 0) (accepted_page bs ds w page h)
+    ∙ (λ i. page_at (o i) bs (n i) page (p i))
     ∙ page_ok bs (length m.places) (directory_at m.order bs page (get_or m.places page 0)) m.rules
 
 pub accepted_exactly : (bs : List ℕ) (page : ℕ) → AcceptedExactly bs page
