@@ -8,7 +8,6 @@ use Rattle.raster.specs.Picture.{allowed, kind_of}
 use Rattle.entries.specs.declared.entry.Directory.{Directory}
 use Rattle.entries.specs.declared.fields.Fields.{Fields}
 use Rattle.entries.specs.Entries.{directory_at}
-use Rattle.links.specs.Links.{places_of}
 use Rattle.pages.specs.declared.layout.Layout.{Layout}
 use Rattle.pages.specs.declared.layout.Sampling.{Sampling}
 use Rattle.pages.specs.declared.layout.Sides.{Sides}
@@ -74,7 +73,7 @@ at_sane o bs n page place l e = page_sane bs n (directory_at o bs page place) l 
 pub opened_sane : (bs : List ℕ) (page : ℕ) (l : Layout) → opened bs page ≡ Ok l → sane l ≡ true
 opened_sane bs page l e =
     let x = opened_was bs page l e in
-    at_sane x.found.endian bs (length (places_of x.found)) page (get_or (places_of x.found) page 0) l x.accepted
+    at_sane x.found.endian bs x.found.count page (get_or x.found.places page 0) l x.accepted
 
 -- what an accepted page was made of
 pub has_page : (bs : List ℕ) (l : Layout) → HasPage bs l → Paged bs l.directories (directory_at l.directory.endian bs l.directory.page l.directory.place) l
