@@ -16,9 +16,10 @@ use Rattle.raster.specs.Picture.{Picture, Sound, within, framed, levels}
 use Rattle.raster.specs.Views.{turn_by}
 use Rattle.raster.proofs.Frames.{turn_one}
 use Rattle.links.specs.declared.directories.Directories.{Directories}
-use Rattle.links.specs.Links.{magic, listed, placed, places_of, walked}
+use Rattle.links.specs.Links.{magic, listed, placed, walked}
 use Rattle.links.specs.Chain.{Stands}
-use Rattle.links.proofs.Accepted.{one_directory, page_placed, page_missing}
+use Rattle.links.proofs.Accepted.{one_directory, accepted_page, accepted_no_page}
+use Rattle.links.proofs.Listing.{count_listed, endian_listed, place_listed}
 use Rattle.entries.specs.declared.entry.Directory.{Directory}
 use Rattle.entries.specs.Entries.{entries_from, entries_of, scanned}
 use Rattle.entries.specs.Fields.{gathered, fielded}
@@ -197,15 +198,16 @@ module _ (q : Outline) (at : ℕ → ℕ → ℕ) (place : ℕ) (bs : List ℕ) 
     pub file_opens : opened bs 0 ≡ Ok layout
     unfolding opened
     file_opens =
-        ap (λ r. then r (λ ds. then (placed ds 0) (λ p. page_at ds.endian bs (length (places_of ds)) 0 p))) chain_found
-        ∙ ap (λ r. then r (λ p. page_at found.endian bs 1 0 p)) (page_placed found 0 (omega arith))
+        ap (λ r. then r (λ ds. then (placed ds 0) (λ p. page_at ds.endian bs ds.count 0 p))) chain_found
+        ∙ ap (λ r. then r (λ p. page_at found.endian bs found.count 0 p)) (accepted_page bs found chain_found 0 (omega (arith, count_listed q.endian (place ∷ []))))
+        ∙ (λ i. page_at (endian_listed q.endian (place ∷ []) i) bs (count_listed q.endian (place ∷ []) i) 0 (place_listed q.endian (place ∷ []) 0 (omega arith) i))
         ∙ page_opens
 
     pub no_other : (k : ℕ) → 0 < k → opened bs k ≡ Err (bare Page)
     unfolding opened
     no_other k l =
-        ap (λ r. then r (λ ds. then (placed ds k) (λ p. page_at ds.endian bs (length (places_of ds)) k p))) chain_found
-        ∙ ap (λ r. then r (λ p. page_at found.endian bs 1 k p)) (page_missing found k l)
+        ap (λ r. then r (λ ds. then (placed ds k) (λ p. page_at ds.endian bs ds.count k p))) chain_found
+        ∙ ap (λ r. then r (λ p. page_at found.endian bs found.count k p)) (accepted_no_page bs found chain_found k (omega (arith, count_listed q.endian (place ∷ []))))
 
 -- a draft has a proper outline
 drafted_proper : (o : Endian) (ps : Pieces) (p : Picture) (place : ℕ) → Drafted ps p (outline_of o ps p) place → Proper (outline_of o ps p)
