@@ -2,12 +2,14 @@
 use Rattle.std.proofs.Common.{◌≡◌, ℕ, ◌+◌, ◌-◌, ◌*◌, ◌%◌, ◌<◌, ◌≤◌, true, List, [], ◌∷◌, length, get_or, is_some, Some, None, Ok, Option, sym, refl, ap, ◌∙◌, subst, ⊎_elim, true≢false, arith}
 use Rattle.std.specs.List.{AllByRecursion}
 use Rattle.std.proofs.lemmas.Bool.{cases_lt, cond_both}
+use Rattle.std.proofs.lemmas.List.{get_or-take}
 use Rattle.octets.specs.declared.endian.Endian.{Endian}
 use Rattle.octets.specs.Rows.{byte, per_byte}
 use Rattle.reads.specs.Agree.{Agree}
 use Rattle.raster.specs.Views.{turn_by}
 use Rattle.raster.proofs.Frames.{framed_same}
 use Rattle.links.specs.Links.{places_of}
+use Rattle.links.proofs.Accepted.{accepted_count}
 use Rattle.links.proofs.Found.{walked_linked}
 use Rattle.entries.specs.declared.entry.Directory.{Directory}
 use Rattle.entries.specs.declared.entry.Entry.{Entry}
@@ -37,10 +39,10 @@ module _ (bs cs : List ℕ) (page : ℕ) (l : Layout) (accepted : opened bs page
   was = opened_was bs page l accepted
 
   abbrev found : Directory
-  found = directory_at was.found.endian bs page (get_or (places_of was.found) page 0)
+  found = directory_at was.found.endian bs page (get_or was.found.places page 0)
 
-  paged : Paged bs (length (places_of was.found)) found l
-  paged = page_was bs (length (places_of was.found)) found l was.accepted
+  paged : Paged bs was.found.count found l
+  paged = page_was bs was.found.count found l was.accepted
 
   abbrev o : Endian
   o = found.endian
@@ -54,8 +56,11 @@ module _ (bs cs : List ℕ) (page : ℕ) (l : Layout) (accepted : opened bs page
   -- a directory stands past the header
   stands_past : 8 ≤ found.place
   stands_past =
-      let s = (walked_linked bs was.found was.walks).0.each page was.there in
-      omega (arith, s.past)
+      let ds = was.found in
+      let n : length (places_of ds) ≡ ds.count = accepted_count bs ds was.walks in
+      let p : get_or (places_of ds) page 0 ≡ get_or ds.places page 0 = get_or-take ds.count ds.places page 0 was.there in
+      let s = (walked_linked bs ds was.walks).0.each page (omega (arith, n, was.there)) in
+      omega (arith, s.past, p)
 
   -- and so do the values of a listed entry
   stored_past : (e : Entry) → EntryRules (length bs) e → (m : Option Shape) → shape_of e.tag ≡ m → is_some m ≡ true → 4 < size e → 8 ≤ e.values

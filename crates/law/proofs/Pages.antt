@@ -6,7 +6,6 @@ use Rattle.faults.specs.declared.fault.Fault.{Fault}
 use Rattle.faults.specs.Faults.{then}
 use Rattle.octets.specs.Rows.{byte}
 use Rattle.links.specs.declared.directories.Directories.{Directories}
-use Rattle.links.specs.Links.{places_of}
 use Rattle.entries.specs.Entries.{directory_at}
 use Rattle.pages.specs.declared.layout.Layout.{Layout}
 use Rattle.pages.specs.Opening.{opened}
@@ -29,8 +28,8 @@ pub only_page : (bs : List ℕ) (page other : ℕ) (l m : Layout) → opened bs 
 only_page bs page other l m e one f =
     let x = opened_was bs page l e in
     let y = opened_was bs other m f in
-    let same : length (places_of x.found) ≡ length (places_of y.found) = ap (λ d. length (places_of d)) (same_found x.found y.found _ x.walks y.walks) in
-    let n : l.directories ≡ length (places_of x.found) = sym (ap (λ q. q.directories) (page_was bs (length (places_of x.found)) (directory_at x.found.endian bs page _) l x.accepted).laid.is) in
+    let same : x.found.count ≡ y.found.count = ap (λ d. d.count) (same_found x.found y.found _ x.walks y.walks) in
+    let n : l.directories ≡ x.found.count = sym (ap (λ q. q.directories) (page_was bs x.found.count (directory_at x.found.endian bs page _) l x.accepted).laid.is) in
     omega (arith, y.there)
 
 -- what is shown of an accepted page
