@@ -1,6 +1,6 @@
 -- One turn after another is one turn: by the law on swaps and reversals, and one test over the whole table.
 use Rattle.std.specs.Prelude.{◌&&◌, nat_lt, slice_index, slice_index_or}
-use Rattle.std.proofs.Common.{◌≡◌, ℕ, zero, suc, ◌+◌, ◌-◌, ◌*◌, ◌/◌, ◌%◌, ◌<◌, ◌≤◌, Bool, true, false, cond, not, T, [], get_or, sym, refl, ◌∙◌, ap₂, subst₂, arith}
+use Rattle.std.proofs.Common.{◌≡◌, ℕ, zero, suc, ◌+◌, ◌-◌, ◌*◌, ◌/◌, ◌%◌, ◌<◌, ◌≤◌, Bool, true, false, cond, not, T, [], get_or, sym, refl, ◌∙◌, ap₂, subst₂, add-one, arith}
 use Rattle.std.proofs.lemmas.Bool.{and_parts, ltb-true}
 use Rattle.std.proofs.lemmas.Bool.Decides.{nat_tests, Decides-below_and}
 use Rattle.raster.specs.Picture.{Picture, framed, reshaped}
@@ -127,15 +127,20 @@ each_entry a b ha hb = each_below (entry_test a) 8 (each_below (λ r. all_below 
 abbrev entry : ℕ → ℕ → Bool
 entry k t = composes (k / 8 + 1) (k % 8 + 1) t
 
+each_place : (i : ℕ) → i < 64 → entry i (get_or (get_or table (i / 8) []) (i % 8) 0) ≡ true
+each_place i h =
+    subst₂ (λ (x y : ℕ). composes x y (get_or (get_or table (i / 8) []) (i % 8) 0) ≡ true) (sym (add-one (i / 8))) (sym (add-one (i % 8)))
+    (each_entry (i / 8) (i % 8) (omega arith) (omega arith))
+
 -- the rule at a place of the table
 placed : (a b i : ℕ) → i ≡ 8 * (counted a - 1) + (counted b - 1) → Composes a b (get_or (get_or table (i / 8) []) (i % 8) 0)
 placed a b i place =
     let ra = counted_range a in
     let rb = counted_range b in
     let t : ℕ = get_or (get_or table (i / 8) []) (i % 8) 0 in
-    let test = each_entry (i / 8) (i % 8) (omega arith) (omega arith) in
-    let row : suc (i / 8) ≡ counted a = omega arith in
-    let column : suc (i % 8) ≡ counted b = omega arith in
+    let test = each_place i (omega arith) in
+    let row : i / 8 + 1 ≡ counted a = omega arith in
+    let column : i % 8 + 1 ≡ counted b = omega arith in
     let counts = subst₂ (λ (x y : ℕ). Composes x y t) row column (composes_turn _ _ t test) in
     record {
       range = counts.range;
