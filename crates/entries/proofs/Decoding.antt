@@ -1,5 +1,5 @@
 -- An entry read as twelve bytes.
-use Rattle.std.proofs.Common.{◌≡◌, ℕ, zero, suc, ◌+◌, ◌<◌, ◌≤◌, List, [], ◌∷◌, get_or, take, drop, ap, ◌∙◌, arith}
+use Rattle.std.proofs.Common.{◌≡◌, ℕ, zero, suc, ◌+◌, ◌<◌, ◌≤◌, List, [], ◌∷◌, get_or, take, drop, refl, ap, ◌∙◌, arith}
 use Rattle.std.proofs.lemmas.List.{get_or-take, get_or-drop}
 use Rattle.octets.specs.Digits.{number}
 use Rattle.octets.specs.Numbers.{short, long}
@@ -33,10 +33,16 @@ module _ (o : Endian) (bs b : List ℕ) (place : ℕ) (got : b ≡ take 12 (drop
   same_byte : (i : ℕ) → i < 12 → byte b i ≡ byte bs (place + i)
   same_byte i h = ap (λ xs. get_or xs i 0) got ∙ get_or-take 12 (drop place bs) i 0 h ∙ get_or-drop place bs i 0
 
-  same_number : (n j at : ℕ) → j + n ≤ 12 → at ≡ place + j → number o n (λ i. byte b (j + i)) ≡ number o n (λ i. byte bs (at + i))
+  pub same_number : (n j at : ℕ) → j + n ≤ 12 → at ≡ place + j → number o n (λ i. byte b (j + i)) ≡ number o n (λ i. byte bs (at + i))
   same_number n j at h e =
       number_same o n (λ i. byte b (j + i)) (λ i. byte bs (at + i))
       (λ t l. same_byte (j + t) (omega arith) ∙ ap (byte bs) (let z : place + (j + t) ≡ at + t = omega arith in z))
+
+  pub short_read : (j : ℕ) → j + 1 < 12 → number o 2 (byte (get_or b j 0 ∷ get_or b (j + 1) 0 ∷ [])) ≡ short o bs (place + j)
+  short_read j h = short_in o b j ∙ same_number 2 j (place + j) (omega arith) refl
+
+  pub long_read : (j : ℕ) → j + 3 < 12 → number o 4 (byte (get_or b j 0 ∷ get_or b (j + 1) 0 ∷ get_or b (j + 2) 0 ∷ get_or b (j + 3) 0 ∷ [])) ≡ long o bs (place + j)
+  long_read j h = long_in o b j ∙ same_number 4 j (place + j) (omega arith) refl
 
   pub raw_same : raw_at o b 0 ≡ raw_at o bs place
   raw_same =

@@ -101,7 +101,7 @@ flush_same slots i t below h at b n =
 
 -- tables that keep nothing
 
-slot_none : (slots : List Slot) → AllByRecursion (λ t. t ≡ None) slots → (k : ℕ) → get_or slots k None ≡ None
+pub slot_none : (slots : List Slot) → AllByRecursion (λ t. t ≡ None) slots → (k : ℕ) → get_or slots k None ≡ None
 slot_none [] h k = refl
 slot_none (t ∷ ts) h zero = h.0
 slot_none (t ∷ ts) h (suc k) = slot_none ts h.1 k

@@ -1,6 +1,6 @@
 -- One turn after another is one turn: by the law on swaps and reversals, and one test over the whole table.
 use Rattle.std.specs.Prelude.{◌&&◌, nat_lt, slice_index, slice_index_or}
-use Rattle.std.proofs.Common.{◌≡◌, ℕ, zero, suc, ◌-◌, ◌<◌, ◌≤◌, Bool, true, false, cond, not, [], sym, refl, ◌∙◌, ap₂, subst₂, arith}
+use Rattle.std.proofs.Common.{◌≡◌, ℕ, zero, suc, ◌+◌, ◌-◌, ◌*◌, ◌/◌, ◌%◌, ◌<◌, ◌≤◌, Bool, true, false, cond, not, T, [], get_or, sym, refl, ◌∙◌, ap₂, subst₂, add-one, arith}
 use Rattle.std.proofs.lemmas.Bool.{and_parts, ltb-true}
 use Rattle.std.proofs.lemmas.Bool.Decides.{nat_tests, Decides-below_and}
 use Rattle.raster.specs.Picture.{Picture, framed, reshaped}
@@ -51,11 +51,15 @@ shape_shape false m f true n g p = reshaped_same p p.height p.width _ _ (λ x y 
 shape_shape true m f false n g p = reshaped_same p p.height p.width _ _ (λ x y hx hy. crossed p m f n g y x hy hx)
 shape_shape true m f true n g p = reshaped_same p p.width p.height _ _ (crossed p m f n g)
 
+-- from 1 to 8 each number counts as itself
+within_turns : (k : ℕ) → (1 ≤ k) × (k ≤ 8) → counted k ≡ k
+within_turns k h = grind (arith, nat_tests)
+
 counted_range : (k : ℕ) → (1 ≤ counted k) × (counted k ≤ 8)
 counted_range k = grind (arith, nat_tests)
 
 -- a number that counts as turn 1 turns as 1 does
-turn_counted : (k : ℕ) → turn_by (counted k) ≡ turn_by k
+pub turn_counted : (k : ℕ) → turn_by (counted k) ≡ turn_by k
 turn_counted k = grind (arith, nat_tests)
 
 abbrev alike : Bool → Bool → Bool
@@ -66,6 +70,10 @@ same_from_alike : (a b : Bool) → alike a b ≡ true → a ≡ b
 same_from_alike true b e = sym e
 same_from_alike false true e = e
 same_from_alike false false e = refl
+
+true_from : (b : Bool) → T b → b ≡ true
+true_from true t = refl
+true_from false t = absurd t
 
 -- t is the turn that a and then b amount to: what it swaps and reverses, and its range
 module _ (a b t : ℕ) where
@@ -97,6 +105,9 @@ module _ (a b t : ℕ) where
             ∙ sym (λ i. shape (s i) (m i) (f i) p);
       }
 
+  composes_range : T composes → (1 ≤ t) × (t ≤ 8)
+  composes_range test = (composes_turn (true_from composes test)).range
+
 abbrev all_below : (ℕ → Bool) → ℕ → Bool
 all_below f zero = true
 all_below f (suc n) = f n && all_below f n
@@ -112,20 +123,38 @@ each_entry : (a b : ℕ) → a < 8 → b < 8 → entry_test a b ≡ true
 unfolding table
 each_entry a b ha hb = each_below (entry_test a) 8 (each_below (λ r. all_below (entry_test r) 8) 8 refl a ha) b hb
 
-pub composed_rule : (a b : ℕ) → Composes a b (composed a b)
-unfolding composed
-composed_rule a b =
+-- the test of an entry, at its place counted from 0, row by row
+abbrev entry : ℕ → ℕ → Bool
+entry k t = composes (k / 8 + 1) (k % 8 + 1) t
+
+each_place : (i : ℕ) → i < 64 → entry i (get_or (get_or table (i / 8) []) (i % 8) 0) ≡ true
+each_place i h =
+    subst₂ (λ (x y : ℕ). composes x y (get_or (get_or table (i / 8) []) (i % 8) 0) ≡ true) (sym (add-one (i / 8))) (sym (add-one (i % 8)))
+    (each_entry (i / 8) (i % 8) (omega arith) (omega arith))
+
+-- the rule at a place of the table
+placed : (a b i : ℕ) → i ≡ 8 * (counted a - 1) + (counted b - 1) → Composes a b (get_or (get_or table (i / 8) []) (i % 8) 0)
+placed a b i place =
     let ra = counted_range a in
     let rb = counted_range b in
-    let t : ℕ = composed a b in
-    let test = each_entry (counted a - 1) (counted b - 1) (omega arith) (omega arith) in
-    let row : suc (counted a - 1) ≡ counted a = omega arith in
-    let column : suc (counted b - 1) ≡ counted b = omega arith in
+    let t : ℕ = get_or (get_or table (i / 8) []) (i % 8) 0 in
+    let test = each_place i (omega arith) in
+    let row : i / 8 + 1 ≡ counted a = omega arith in
+    let column : i % 8 + 1 ≡ counted b = omega arith in
     let counts = subst₂ (λ (x y : ℕ). Composes x y t) row column (composes_turn _ _ t test) in
     record {
       range = counts.range;
       rule = λ p. ap₂ (λ (f g : Picture → Picture). f (g p)) (sym (turn_counted b)) (sym (turn_counted a)) ∙ counts.rule p;
     }
+
+pub composed_rule : (a b : ℕ) → Composes a b (composed a b)
+unfolding composed
+composed_rule a b =
+    let rb = counted_range b in
+    let i : ℕ = 8 * (counted a - 1) + (counted b - 1) in
+    let row : i / 8 ≡ counted a - 1 = omega arith in
+    let column : i % 8 ≡ counted b - 1 = omega arith in
+    subst₂ (λ (x y : ℕ). Composes a b (get_or (get_or table x []) y 0)) row column (placed a b i refl)
 
 pub table_rule : Rule
 unfolding composed table

@@ -2,7 +2,7 @@
 ghost use Rattle.std.specs.Prelude.{◌≡◌, cond};
 ghost use Rattle.raster.specs.Picture.{Picture};
 ghost use Rattle.raster.specs.Turns.{Eight};
-ghost use Rattle.raster.specs.Views.{turn_by, swaps, column_below, row_below};
+ghost use Rattle.raster.specs.Views.{turn_by, swaps, mirrors, flips, column_below, row_below};
 ghost use Rattle.raster.specs.Kept.{through};
 ghost use Rattle.raster.specs.Layers.{turned};
 ghost use Rattle.raster.specs.Soundness.{turned_sound};
@@ -86,14 +86,29 @@ pub fn swaps(turn: u8) -> bool
     matches!(turn, 5..=8)
 }
 
+// Whether a turn reverses the columns below.
+fn mirrors(turn: u8) -> bool
+    ensures { result ≡ mirrors turn }
+{
+    matches!(turn, 2 | 3 | 7 | 8)
+}
+
+// Whether a turn reverses the rows below.
+fn flips(turn: u8) -> bool
+    ensures { result ≡ flips turn }
+{
+    matches!(turn, 3 | 4 | 6 | 7)
+}
+
 // The column below that a turn shows at column x, row y, over a picture so wide.
 pub fn column_below(turn: u8, width: u32, x: u32, y: u32) -> u32
     ensures { result ≡ column_below turn width x y }
 {
     let column = if swaps(turn) { y } else { x };
-    match turn {
-        2 | 3 | 7 | 8 => width.saturating_sub(1).saturating_sub(column),
-        _ => column,
+    if mirrors(turn) {
+        width.saturating_sub(1).saturating_sub(column)
+    } else {
+        column
     }
 }
 
@@ -102,8 +117,9 @@ pub fn row_below(turn: u8, height: u32, x: u32, y: u32) -> u32
     ensures { result ≡ row_below turn height x y }
 {
     let row = if swaps(turn) { x } else { y };
-    match turn {
-        3 | 4 | 6 | 7 => height.saturating_sub(1).saturating_sub(row),
-        _ => row,
+    if flips(turn) {
+        height.saturating_sub(1).saturating_sub(row)
+    } else {
+        row
     }
 }
