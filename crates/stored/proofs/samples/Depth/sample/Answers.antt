@@ -3,7 +3,6 @@ use Rattle.octets.specs.Digits.{digit}
 use Rattle.octets.specs.Rows.{per_byte}
 use Rattle.octets.proofs.Digits.{digit_shift}
 use Rattle.stored.specs.declared.samples.Depth.{Depth}
-use Rattle.stored.specs.declared.samples.Depth.TheVariants.{One, Four, Eight}
 use Rattle.stored.specs.Depths.{bits_of}
 use Rattle.stored.proofs.samples.Depth.sample.Goals as goal
 
