@@ -2,7 +2,7 @@
 use Rattle.std.proofs.Common.{◌≡◌, ℕ, ◌+◌, ◌-◌, ◌*◌, ◌/◌, ◌<◌, ◌≤◌, min, Bool, true, false, cond, ◌&&◌, ltb, leb, ◌⊎◌, List, ◌++◌, length, get_or, take, drop, sym, refl, ap, ◌∙◌, inl, inr, ⊎_elim, add_assoc, arith}
 use Rattle.std.proofs.lemmas.List.{get_or-take, get_or-drop, get_or_past, get_or-replicate, get_or_append_left, get_or-append_right, length-take-le, length-drop, length-replicate}
 use Rattle.std.proofs.lemmas.Bool.{cond-false, and_left, and_right, le-ltb, lt-leb, cases_lt}
-use Rattle.octets.specs.Numbers.{word, long}
+use Rattle.octets.specs.Numbers.{word, short, long}
 use Rattle.octets.specs.Rows.{byte}
 use Rattle.octets.specs.declared.endian.Endian.{Endian}
 use Rattle.octets.proofs.Digits.{number_same}
@@ -12,7 +12,7 @@ use Rattle.entries.specs.declared.entry.Entry.{Entry}
 use Rattle.entries.specs.Entries.{entry_at, size, home_of}
 use Rattle.pages.specs.Extents.{span, outer}
 use Rattle.places.specs.Places.{behind, shares}
-use Rattle.places.specs.Search.{passed, outer_span, entry_span}
+use Rattle.places.specs.Search.{passed, outer_span}
 
 -- a span of no bytes moves no place
 passed_none : (len place at : ℕ) → passed len place (span at 0) ≡ place
@@ -45,10 +45,13 @@ value_passed n len place e last v = by (cases_lt 4 (size e))
         ∙ passed_none len place last
         ∙ sym (cond-false (outer n e) (passed len place (span e.values (size e))) place (and_left (ltb 4 (size e)) (leb (e.values + size e) n) f))
 
--- the entry at a place, by the numbers in it
-pub entry_passed : (o : Endian) (bs : List ℕ) (at len place : ℕ) → passed len place (entry_span o bs at) ≡ passed_value (length bs) len place (entry_at o bs at)
+-- the entry at a place among n bytes, by the numbers in it
+pub entry_passed : (o : Endian) (bs : List ℕ) (at n len place kind count last : ℕ)
+    → kind ≡ short o bs (at + 2) → count ≡ long o bs (at + 4) → last ≡ long o bs (at + 8)
+    → passed len place (outer_span n kind count last) ≡ passed_value n len place (entry_at o bs at)
 unfolding entry_at
-entry_passed o bs at len place = value_passed (length bs) len place (entry_at o bs at) (long o bs (at + 8)) refl
+entry_passed o bs at n len place kind count last k c l =
+    (λ i. passed len place (outer_span n (k i) (c i) (l i))) ∙ value_passed n len place (entry_at o bs at) (long o bs (at + 8)) refl
 
 -- the number in some of twelve bytes, each of which is the one at its place
 pub word_twelve : (o : Endian) (bs b : List ℕ) (at : ℕ) → ((i : ℕ) → i < 12 → get_or b i 0 ≡ byte bs (at + i))

@@ -36,7 +36,7 @@ value_first n len place e es = by (outer n e)
     by false = refl
 
 -- the values of the entries of a directory, by their numbers
-values_passed : (o : Endian) (bs : List ℕ) (len base n place k : ℕ)
+pub values_passed : (o : Endian) (bs : List ℕ) (len base n place k : ℕ)
     → passed_each (λ i. entry_span o bs (base + 12 * i)) len place k n ≡ passed_all len place (value_spans (length bs) (entries_from n o bs (base + 12 * k)))
 unfolding passed_each passed_all value_spans
 values_passed o bs len base zero place k = refl
@@ -45,7 +45,7 @@ values_passed o bs len base (suc n) place k =
     let p : base + 12 * (k + 1) ≡ at + 12 = omega arith in
     values_passed o bs len base n (passed len place (entry_span o bs at)) (k + 1)
     ∙ ap (λ q. passed_all len (passed len place (entry_span o bs at)) (value_spans (length bs) (entries_from n o bs q))) p
-    ∙ ap (λ q. passed_all len q (value_spans (length bs) (entries_from n o bs (at + 12)))) (entry_passed o bs at len place)
+    ∙ ap (λ q. passed_all len q (value_spans (length bs) (entries_from n o bs (at + 12)))) (entry_passed o bs at (length bs) len place _ _ _ refl refl refl)
     ∙ sym (value_first (length bs) len place (entry_at o bs at) (entries_from n o bs (at + 12)))
 
 -- the directory, the segments, and then the values of the entries

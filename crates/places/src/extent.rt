@@ -8,6 +8,9 @@ use entries::entry::Directory;
 // The bytes of a sector.
 pub const SECTOR: u64 = 512;
 
+// Extents end below it: 2 ^ 38.
+const LIMIT: u64 = 274877906944;
+
 // How many sectors so many bytes take.
 fn sectors(bytes: u64) -> u64
     ensures { result ≡ ceil bytes 512 }
@@ -26,6 +29,18 @@ pub struct Extent {
 impl Extent {
     ghost use Rattle.pages.specs.Extents.{directory_span};
     ghost use Rattle.places.specs.Search.{span_of};
+
+    // So many bytes from a place on, if they end below 2 ^ 38.
+    pub fn near(place: u64, count: u64) -> Option<Extent>
+        ensures some { IfSome result (λ x. (x.place ≡ place) × (x.count ≡ count) × (place + count < 2 ^ 38)) }
+        ensures none { IfNone result (2 ^ 38 ≤ place + count) }
+    {
+        if place < LIMIT && count < LIMIT - place {
+            Some(Extent { place, count })
+        } else {
+            None
+        }
+    }
 
     // A directory with its count, its entries and its link.
     pub fn of_directory(directory: Directory) -> Extent

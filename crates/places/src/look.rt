@@ -1,17 +1,18 @@
 // The extents of a page, read from any store, and where a block stands once they are looked at.
-ghost use Rattle.std.specs.Prelude.{◌≡◌, ℕ, ◌+◌, ◌*◌, ◌^◌, ◌<◌, List, length, slice_index};
+ghost use Rattle.std.specs.Prelude.{◌≡◌, ℕ, ◌+◌, ◌*◌, ◌^◌, ◌<◌, true, List, length, slice_index};
 ghost use Rattle.octets.specs.Rows.{byte};
 ghost use Rattle.store.specs.Looking.{Looked};
 ghost use Rattle.pages.specs.Extents.{Span, segment_span, extents};
 ghost use Rattle.pages.specs.Geometry.{segments_of};
+ghost use Rattle.stored.specs.Sane.{sane, Sane};
 ghost use Rattle.places.specs.Search.{span_of, outer_span, entry_span, passed_all, passed_each};
 
 use crate::extent::*;
 use entries::entry::{Directory, RawEntry, size_of};
 use entries::reading::read_number;
+use pages::layout::Layout;
 use reads::numbers::fill;
 use store::traits::Store;
-use stored::page::Page;
 
 // Extents by number, read from any store.
 trait Extents {
@@ -32,20 +33,21 @@ trait Extents {
 // The needed bytes of the segments of a page.
 #[derive(Clone, Copy)]
 struct Segments {
-    page: Page,
+    layout: Layout,
+    ghost limits: { sane layout ≡ true },
 }
 
 impl Extents for Segments {
-    ghost many = { λ s. segments_of s.page.layout };
+    ghost many = { λ s. segments_of s.layout };
 
-    ghost span_at = { λ s bs k. segment_span bs s.page.layout k };
+    ghost span_at = { λ s bs k. segment_span bs s.layout k };
 
     fn count(&self) -> u32 {
-        self.page.layout().segments() as u32
+        self.layout.segments() as u32
     }
 
     fn read<S: Store>(&self, store: &mut S, k: u32) -> Extent {
-        let layout = self.page.layout();
+        let layout = self.layout;
         let offset = read_number(store, layout.directory.endian, layout.offsets, k);
         Extent {
             place: offset as u64,
@@ -122,14 +124,15 @@ fn pass_each<S: Store, E: Extents>(store: &mut S, list: &E, block: Block) -> Blo
 }
 
 // A block once all extents of a page are looked at, each once.
-pub fn pass_extents<S: Store>(store: &mut S, page: Page, block: Block) -> Block
-    ensures place { result.place ≡ passed_all block.len block.place (extents (S.Store.seen store.old) page.layout) }
+pub fn pass_extents<S: Store>(store: &mut S, layout: Layout, block: Block) -> Block
+    requires { Sane layout }
+    ensures place { result.place ≡ passed_all block.len block.place (extents (S.Store.seen store.old) layout) }
     ensures len { result.len ≡ block.len }
     ensures near { block.place < 2 ^ 39 → result.place < 2 ^ 39 }
     ensures looked { Looked S.Store.seen S.Store.may S.Store.trail store.old store.new }
 {
-    let directory = page.layout().directory;
+    let directory = layout.directory;
     let first = block.pass(Extent::of_directory(directory));
-    let second = pass_each(store, &Segments { page }, first);
+    let second = pass_each(store, &Segments { layout }, first);
     pass_each(store, &Values { directory }, second)
 }

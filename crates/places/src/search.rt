@@ -24,9 +24,10 @@ pub fn find_place<S: Store>(store: &mut S, page: Page, len: u64) -> Option<u32>
     ensures looked { Looked S.Store.seen S.Store.may S.Store.trail store.old store.new }
 {
     let n = store.length();
+    let layout = page.layout();
     let mut place = first_place();
     while let Some(block) = Block::within(place, len, n) {
-        let next = pass_extents(store, page, block).place;
+        let next = pass_extents(store, layout, block).place;
         if next == place {
             return Some(place as u32);
         }

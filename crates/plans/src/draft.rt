@@ -44,12 +44,9 @@ impl DraftOutline {
     }
 
     // The bytes of the draft.
-    #[tactic(auto, using(crate::proofs::Outlines::some_segments), unfolding(crate::specs::Outlines::block_size))]
     pub fn size(self) -> u64
         ensures { result ≡ block_size self.outline }
     {
-        let last = self.segments() - 1;
-        let whole = last as u64 * self.segment_size(0) as u64;
-        self.head_size() as u64 + whole + self.segment_size(last) as u64
+        self.outline.size()
     }
 }

@@ -1,6 +1,6 @@
 // The outline of a draft: all of it but its pixels and its place.
 ghost use Rattle.std.specs.Prelude.{◌≡◌, ◌-◌, ◌^◌, ◌<◌, ◌≤◌};
-ghost use Rattle.plans.specs.Outlines.{Proper, segments_in, segment_size, entries_in, bits_size, longs_size, head_size, longs_at, offsets_entry, counts_entry, values_after, block_layout};
+ghost use Rattle.plans.specs.Outlines.{Proper, segments_in, segment_size, entries_in, bits_size, longs_size, head_size, block_size, longs_at, offsets_entry, counts_entry, values_after, block_layout};
 
 use entries::entry::Directory;
 use entries::fields::{Form, Numbers};
@@ -43,6 +43,17 @@ impl Outline {
     {
         let directory = 6 + 12 * self.entries();
         directory + self.bits_size() + 16 + 2 * longs_size(self.segments() as u32)
+    }
+
+    // The bytes of the draft.
+    pub fn size(self) -> u64
+        requires proper { Proper self }
+        requires few { segments_in self ≤ 1024 }
+        ensures { result ≡ block_size self }
+    {
+        let last = self.segments() - 1;
+        let whole = last * self.segment_size(0) as u64;
+        self.head_size() as u64 + whole + self.segment_size(last as u32) as u64
     }
 
     // The page of the draft at a place, as it opens.

@@ -3,5 +3,7 @@
 
 pub mod laws;
 pub mod page;
+pub mod places;
 pub mod samples;
 pub mod spot;
+pub mod stored;

@@ -45,16 +45,23 @@ impl Depth {
     pub fn shift(self, s: u32) -> u32
         ensures { let bits = bits_of self in result ≡ bits * (per_byte bits - 1 - s % per_byte bits) }
     {
-        let bits = self.bits();
-        let per = 8 / bits;
-        bits * (per - 1 - s % per)
+        match self {
+            Depth::One => 7 - s % 8,
+            Depth::Four => 4 * (1 - s % 2),
+            Depth::Eight => 0,
+        }
     }
 
     // Sample s of a row, which stands in a byte.
     pub fn sample(self, byte: u8, s: u32) -> u32
         ensures { let bits = bits_of self in result ≡ digit (2 ^ bits) (per_byte bits) byte (s % per_byte bits) }
     {
-        (byte as u32 >> self.shift(s)) % (1 << self.bits())
+        let above = byte as u32 >> self.shift(s);
+        match self {
+            Depth::One => above % 2,
+            Depth::Four => above % 16,
+            Depth::Eight => above % 256,
+        }
     }
 }
 

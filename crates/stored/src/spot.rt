@@ -5,9 +5,8 @@ ghost use Rattle.stored.specs.Pixels.{segment_of, first_sample, stored_pixel};
 ghost use Rattle.stored.specs.Reading.{start_of};
 
 use crate::page::Page;
-use crate::samples::read_pixel;
-use entries::reading::read_number;
-use pages::geometry::samples_of;
+use crate::places::*;
+use crate::stored::read_stored;
 use store::traits::Store;
 
 // A pixel of the stored grid of a page.
@@ -25,27 +24,21 @@ impl Spot<'_> {
     pub fn segment(&self) -> u32
         ensures { let l = self.now.page.now.layout in result ≡ segment_of l.cut l.width self.now.column self.now.row }
     {
-        let layout = &self.page.layout;
-        let across = layout.cut.across(layout.width) as u32;
-        self.row / layout.cut.high * across + self.column / layout.cut.wide
+        segment_of(&self.page.layout, self.column, self.row)
     }
 
     // Which sample of its row is the first of the pixel.
     pub fn first_sample(&self) -> u32
         ensures { result ≡ first_sample self.now.page.now.layout self.now.column }
     {
-        let layout = &self.page.layout;
-        self.column % layout.cut.wide * samples_of(layout.kind) as u32
+        first_sample(&self.page.layout, self.column)
     }
 
     // How far into its segment the bytes of the pixel begin.
     pub fn start(&self) -> u64
         ensures { result ≡ start_of self.now.page.now.layout self.now.column self.now.row }
     {
-        let layout = &self.page.layout;
-        let size = layout.cut.row_bytes(layout.kind);
-        let per = 8 / layout.kind.bits as u32;
-        (self.row % layout.cut.high) as u64 * size + (self.first_sample() / per) as u64
+        start_of(&self.page.layout, self.column, self.row)
     }
 
     // The pixel; two reads of the store, of its segment's offset and of its bytes.
@@ -53,14 +46,6 @@ impl Spot<'_> {
         ensures value { result ≡ stored_pixel (S.Store.seen store.old) self.now.page.now.layout self.now.column self.now.row }
         ensures looked { Looked S.Store.seen S.Store.may S.Store.trail store.old store.new }
     {
-        let layout = &self.page.layout;
-        let offset = read_number(
-            store,
-            layout.directory.endian,
-            layout.offsets,
-            self.segment(),
-        );
-        let place = offset as u64 + self.start();
-        read_pixel(store, layout.kind, place, self.first_sample())
+        read_stored(store, &self.page.layout, self.column, self.row)
     }
 }

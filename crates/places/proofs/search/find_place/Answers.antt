@@ -1,6 +1,7 @@
 use Rattle.std.proofs.Common.{◌≡◌, ◌+◌, ◌<◌, ◌≤◌, length, sym, ◌∙◌, subst, arith}
 use Rattle.store.proofs.Looks.{looked_none, looked_on}
 use Rattle.pages.specs.Extents.{extents}
+use Rattle.stored.specs.Sane.{Sane, sane_parts}
 use Rattle.places.specs.Search.{passed_all}
 use Rattle.places.specs.Lowest.{Placed}
 use Rattle.places.proofs.Finding.{place_placed}
@@ -16,6 +17,9 @@ loop-block-init g c =
       looked = looked_none g.S.Store.seen g.S.Store.may g.S.Store.trail c.args.store.now;
     }
 
+pub pass_extents-next-requires : goal.pass_extents-next-requires
+pass_extents-next-requires g c = subst Sane (sym c.layout-layout.ensures) (sane_parts c.args.page.layout c.args.page.limits)
+
 pub returns-then-next-place : goal.returns-then-next-place
 returns-then-next-place g c =
     let bs = g.S.Store.seen c.args.store.now in
@@ -25,7 +29,7 @@ returns-then-next-place g c =
     let i = c.loop-block.invariant in
     let b = c.in-Some.ensures.some in
     let r = c.pass_extents-next.ensures in
-    let v : c.pass_extents-next.result.place ≡ passed_all len place (extents bs l) = r.place ∙ (λ j. passed_all (b.1 j) (b.0 j) (extents (i.looked.same j) l)) in
+    let v : c.pass_extents-next.result.place ≡ passed_all len place (extents bs l) = r.place ∙ (λ j. passed_all (b.1 j) (b.0 j) (extents (i.looked.same j) (c.layout-layout.ensures j))) in
     let e = sym v ∙ c.if-next-place.true in
     let k : place + len ≤ length bs = subst (λ m. place + len ≤ m) c.length-n.ensures b.2 in
     let found = ends_at bs l len place i.tried e k in
@@ -39,7 +43,7 @@ pub loop-block-smaller : goal.loop-block-smaller
 loop-block-smaller g c =
     let b = c.in-Some.ensures.some in
     let grown : c.in-Some.block.place ≤ c.pass_extents-next.result.place =
-    subst (λ q. c.in-Some.block.place ≤ q) (sym c.pass_extents-next.ensures.place) (all_grows c.in-Some.block.len c.in-Some.block.place (extents (g.S.Store.seen c.loop-block.store) c.args.page.layout)) in
+    subst (λ q. c.in-Some.block.place ≤ q) (sym c.pass_extents-next.ensures.place) (all_grows c.in-Some.block.len c.in-Some.block.place (extents (g.S.Store.seen c.loop-block.store) c.layout-layout.result)) in
     omega (arith, b.0, b.2, grown, c.if-next-place.false)
 
 pub loop-block-preserved : goal.loop-block-preserved
@@ -49,7 +53,7 @@ loop-block-preserved g c =
     let i = c.loop-block.invariant in
     let b = c.in-Some.ensures.some in
     let r = c.pass_extents-next.ensures in
-    let v = r.place ∙ (λ j. passed_all (b.1 j) (b.0 j) (extents (i.looked.same j) l)) in
+    let v = r.place ∙ (λ j. passed_all (b.1 j) (b.0 j) (extents (i.looked.same j) (c.layout-layout.ensures j))) in
     record {
       tried = tried_more (extents bs l) c.args.len c.loop-block.place c.pass_extents-next.result.place v i.tried;
       looked = looked_on _ _ _ _ _ _ i.looked r.looked;

@@ -1,19 +1,5 @@
-use Rattle.std.proofs.Common.{arith}
-use Rattle.std.proofs.lemmas.Grind.{common_steps}
 use Rattle.stored.specs.Sane.{sane_parts}
 use Rattle.stored.proofs.spot.Spot.start.Goals as goal
 
-pub nonzero_div-per : goal.nonzero_div-per
-nonzero_div-per c = let s = sane_parts c.args.self.now.page.now.layout c.args.self.now.page.now.limits in grind (arith, common_steps)
-
-pub nonzero_rem-result : goal.nonzero_rem-result
-nonzero_rem-result c = let s = sane_parts c.args.self.now.page.now.layout c.args.self.now.page.now.limits in grind (arith, common_steps)
-
-pub overflow_mul-result : goal.overflow_mul-result
-overflow_mul-result c = let s = sane_parts c.args.self.now.page.now.layout c.args.self.now.page.now.limits in grind (arith, common_steps)
-
-pub nonzero_div-result : goal.nonzero_div-result
-nonzero_div-result c = let s = sane_parts c.args.self.now.page.now.layout c.args.self.now.page.now.limits in grind (arith, common_steps)
-
-pub overflow_add-result : goal.overflow_add-result
-overflow_add-result c = let s = sane_parts c.args.self.now.page.now.layout c.args.self.now.page.now.limits in grind (arith, common_steps)
+pub start_of-requires : goal.start_of-requires
+start_of-requires c = let page = c.args.self.now.page.now in sane_parts page.layout page.limits
