@@ -2,4 +2,5 @@
 #![tactic(auto)]
 
 pub mod endian;
+pub mod numbers;
 pub mod word;
