@@ -1,22 +1,22 @@
 -- The size of a draft.
-use Rattle.std.proofs.Common.{◌≡◌, ℕ, ◌<◌, ◌≤◌, Bool, true, false, not, ltb, [], Some, None, Ok, Err, Option, Result, ok_or, sym, refl, ap, ◌∙◌, subst, true≢false, arith}
-use Rattle.std.proofs.lemmas.Bool.{lt-ltb, le-ltb}
+use Rattle.std.proofs.Common.{◌≡◌, ℕ, ◌+◌, ◌<◌, ◌≤◌, Bool, true, false, not, ◌&&◌, ltb, leb, Some, None, Ok, Err, Option, Result, ok_or, sym, refl, ap, ◌∙◌, subst, true≢false, arith}
+use Rattle.std.proofs.lemmas.Bool.{and_parts, cond_both, ltb-true, leb-true, lt-ltb, le-ltb}
 use Rattle.faults.specs.declared.fault.Fault.{Fault}
 use Rattle.faults.specs.declared.fault.Check.TheVariants.{Many, View as ViewCheck}
 use Rattle.faults.specs.Faults.{bare, refused}
 use Rattle.links.proofs.Chaining.{passed}
+use Rattle.raster.specs.Views.{area_fits, swaps}
 use Rattle.pages.specs.declared.layout.Layout.{Layout}
-use Rattle.stored.specs.Sane.{sane}
-use Rattle.stored.specs.Soundness.{picture_sound}
-use Rattle.stored.specs.Pixels.{picture_of}
+use Rattle.pages.specs.Pages.{between}
+use Rattle.stored.specs.Sane.{sane, Sane, sane_parts}
 use Rattle.plans.specs.declared.draft.DraftOutline.{DraftOutline}
 use Rattle.plans.specs.declared.outline.Outline.{Outline}
 use Rattle.plans.specs.declared.plan.Plan.{Plan}
 use Rattle.plans.specs.declared.view.View.{View}
 use Rattle.plans.specs.Plans.{Drafts}
-use Rattle.plans.specs.Views.{shows_in, view_checked}
+use Rattle.plans.specs.Views.{shows_in, view_checked, view_width, view_height}
 use Rattle.plans.specs.Outlines.{Proper, segments_in, block_size}
-use Rattle.writer.proofs.Drafted.{made_proper}
+use Rattle.plans.proofs.Views.{plan_proper}
 use Rattle.drafts.specs.Steps.{sized_for, outline_by, width_of, height_of}
 
 -- an accepted view
@@ -58,9 +58,38 @@ abbrev pub sized_by : Result DraftOutline Fault → Result ℕ Fault
 sized_by (Ok d) = Ok (block_size d.outline)
 sized_by (Err f) = Err f
 
+-- the sides of what is seen through a view that fits
+pub record Sides (l : Layout) (v : View) : Type 0 where
+  pub some_wide : 1 ≤ view_width v
+  pub some_high : 1 ≤ view_height v
+  pub wide : view_width v ≤ 16384
+  pub high : view_height v ≤ 16384
+
+pub view_sides : (l : Layout) (v : View) → Sane l → shows_in (width_of l) (height_of l) v ≡ true → Sides l v
+view_sides l v s t =
+    let whole = (and_parts (area_fits (width_of l) (height_of l) v.area) (between 1 8 v.turn) t).0 in
+    let parts = and_parts (ltb 0 v.area.width && ltb 0 v.area.height) (leb (v.area.x + v.area.width) (width_of l) && leb (v.area.y + v.area.height) (height_of l)) whole in
+    let some = and_parts (ltb 0 v.area.width) (ltb 0 v.area.height) parts.0 in
+    let most = and_parts (leb (v.area.x + v.area.width) (width_of l)) (leb (v.area.y + v.area.height) (height_of l)) parts.1 in
+    let w : 0 < v.area.width = ltb-true 0 v.area.width some.0 in
+    let h : 0 < v.area.height = ltb-true 0 v.area.height some.1 in
+    let wl : width_of l ≤ 16384 = cond_both (swaps l.orientation) l.height l.width (λ n. n ≤ 16384) (λ _. s.height.most) (λ _. s.width.most) in
+    let hl : height_of l ≤ 16384 = cond_both (swaps l.orientation) l.width l.height (λ n. n ≤ 16384) (λ _. s.width.most) (λ _. s.height.most) in
+    let wm : v.area.width ≤ 16384 = omega (arith, leb-true (v.area.x + v.area.width) (width_of l) most.0) in
+    let hm : v.area.height ≤ 16384 = omega (arith, leb-true (v.area.y + v.area.height) (height_of l) most.1) in
+    record {
+      some_wide = cond_both (swaps v.turn) v.area.height v.area.width (λ n. 1 ≤ n) (λ _. omega arith) (λ _. omega arith);
+      some_high = cond_both (swaps v.turn) v.area.width v.area.height (λ n. 1 ≤ n) (λ _. omega arith) (λ _. omega arith);
+      wide = cond_both (swaps v.turn) v.area.height v.area.width (λ n. n ≤ 16384) (λ _. hm) (λ _. wm);
+      high = cond_both (swaps v.turn) v.area.width v.area.height (λ n. n ≤ 16384) (λ _. wm) (λ _. hm);
+    }
+
 -- the outline of a draft through a view that fits is proper
 pub view_proper : (l : Layout) (v : View) (plan : Plan) → sane l ≡ true → shows_in (width_of l) (height_of l) v ≡ true → Proper (outline_by v plan l.kind)
-view_proper l v plan t u = made_proper plan (picture_of [] l) v (picture_sound [] l t) u
+view_proper l v plan t u =
+    let s = sane_parts l t in
+    let k = view_sides l v s u in
+    plan_proper plan (view_width v) (view_height v) l.kind s.kind k.some_wide k.wide k.some_high k.high
 
 -- what an accepted view and the outline of its draft come to
 pub sized_draft : (l : Layout) (v : View) (plan : Plan) (o : Option DraftOutline) (r : Result DraftOutline Fault) → sane l ≡ true

@@ -157,7 +157,7 @@ impl<C: Card> Holder<C> {
         };
         self.store.settle();
         self.state.draft = Some(draft.at(Stage::Rested));
-        Ok(token.moved())
+        Ok(token.rested())
     }
 
     // Writes the header that leads to the draft.
@@ -180,7 +180,7 @@ impl<C: Card> Holder<C> {
         };
         let _ = self.point(draft);
         self.state.draft = Some(draft.at(Stage::Switched));
-        Ok(token.moved())
+        Ok(token.switched())
     }
 
     // Settles the card, and shows the page that the header now leads to.

@@ -51,7 +51,7 @@ impl<S> Ticket<S> {
     }
 
     // The draft at another stage.
-    pub(crate) fn moved<T>(self) -> Ticket<T>
+    fn moved<T>(self) -> Ticket<T>
         ensures { result.live ≡ self.live }
     {
         let Ticket { live, stage: _ } = self;
@@ -59,6 +59,24 @@ impl<S> Ticket<S> {
             live,
             stage: PhantomData,
         }
+    }
+}
+
+impl Ticket<AtBegun> {
+    // The draft once it has rested.
+    pub(crate) fn rested(self) -> Rested
+        ensures { result.live ≡ self.live }
+    {
+        self.moved()
+    }
+}
+
+impl Ticket<AtRested> {
+    // The draft once the header leads to it.
+    pub(crate) fn switched(self) -> Switched
+        ensures { result.live ≡ self.live }
+    {
+        self.moved()
     }
 }
 

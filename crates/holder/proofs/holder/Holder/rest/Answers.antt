@@ -9,5 +9,5 @@ returns g c =
       step = rest_ok (held_by c.args.self.now.state) c.in-Some.draft c.at.result (lawful g.C.Store c.args.self.now.store)
           (record { seen = c.settle.ensures.same; may = c.settle.ensures.lists; trail = c.settle.ensures.trails })
           out.0 out.1 c.at.ensures;
-      live = c.moved.ensures;
+      live = c.rested.ensures;
     }

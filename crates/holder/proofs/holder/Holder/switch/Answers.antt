@@ -16,5 +16,5 @@ returns g c = record {
       (switch_ok (held_by c.args.self.now.state) d c.at.result
       (wrote_of c.point.result 0 (header d.plan.endian d.place) c.point.ensures.wrote room)
       out.0 out.1 c.at.ensures);
-  live = c.moved.ensures;
+  live = c.switched.ensures;
 }
