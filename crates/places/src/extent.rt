@@ -1,7 +1,9 @@
 // Extents of a file, and blocks that may share sectors with them.
 ghost use Rattle.std.specs.Prelude.{◌≡◌, ◌+◌, ◌*◌, ◌^◌, ◌<◌, ◌≤◌, IfSome, IfNone, nat_le};
 ghost use Rattle.octets.specs.Rows.{ceil};
+ghost use Rattle.pages.specs.Extents.{directory_span};
 ghost use Rattle.places.specs.Places.{behind, shares};
+ghost use Rattle.places.specs.Search.{span_of};
 
 use entries::entry::Directory;
 
@@ -28,7 +30,7 @@ pub struct Extent {
 
 impl Extent {
     ghost use Rattle.pages.specs.Extents.{directory_span};
-    ghost use Rattle.places.specs.Search.{span_of};
+    ghost use Rattle.places.specs.Search.{span_of, passed};
 
     // So many bytes from a place on, if they end below 2 ^ 38.
     pub fn near(place: u64, count: u64) -> Option<Extent>
@@ -58,6 +60,23 @@ impl Extent {
     {
         sectors(self.place + self.count)
     }
+
+    // The place of a block of `len` bytes once the extent is looked at: behind it if they share a sector.
+    pub fn pass(self, place: u64, len: u64) -> u64
+        requires block { place + len < 2 ^ 40 }
+        ensures value { result ≡ passed len place (span_of self) }
+        ensures near { place < 2 ^ 39 → result < 2 ^ 39 }
+    {
+        Block { place, len }.pass(self).place
+    }
+}
+
+// A directory with its count, its entries and its link.
+pub fn directory_extent(directory: Directory) -> Extent
+    ensures value { span_of result ≡ directory_span directory }
+    ensures near { result.place + result.count < 2 ^ 38 }
+{
+    Extent::of_directory(directory)
 }
 
 // `len` bytes that are to stand from a place on.
