@@ -1,4 +1,4 @@
-// Where a pixel lies in its segment.
+// Where a pixel lies: under the orientation, and in its segment.
 ghost use Rattle.std.specs.Prelude.{◌≡◌, ◌<◌};
 ghost use Rattle.stored.specs.Pixels.{segment_of, first_sample};
 ghost use Rattle.stored.specs.Reading.{start_of};
@@ -6,6 +6,7 @@ ghost use Rattle.stored.specs.Sane.{Sane};
 
 use pages::geometry::samples_of;
 use pages::layout::Layout;
+pub use raster::turn::{column_below, row_below, swaps};
 
 // The segment in which the pixel at column x, row y lies.
 pub fn segment_of(layout: &Layout, x: u32, y: u32) -> u32
