@@ -28,7 +28,7 @@ fn kind_name(kind: Kind) -> &'static str {
 }
 
 // A refusal in words and in numbers.
-fn print_fault(rt: &HostRuntime, fault: Fault) -> Result<(), Failed> {
+pub fn print_fault(rt: &HostRuntime, fault: Fault) -> Result<(), Failed> {
     println!(rt; "{}", meaning(fault.check))?;
     println!(rt; "{fault}")?;
     Ok(())

@@ -1,8 +1,9 @@
 // A page laid out anew.
 use crate::failed::Failed;
 use crate::files::{load, save};
-use crate::info::{accepted, print_page};
-use crate::wishes::Wish;
+use crate::info::{print_fault, print_page};
+pub use crate::wishes::Wish;
+use faults::fault::Fault;
 use holder::holder::Holder;
 use plans::view::View;
 use raster::grid::{Area, Grid};
@@ -10,6 +11,12 @@ use relaying::lay_out;
 use script::hash::fnv;
 use store::slices::{Chip, Memory};
 use store::traits::Card;
+
+// A refusal is printed, and ends the command whether or not that could be.
+fn refused(rt: &HostRuntime, fault: Fault) -> Failed {
+    let _ = print_fault(rt, fault);
+    Failed::Refused
+}
 
 // The view that is wished for of the picture shown.
 fn view_of<C: Card>(holder: &Holder<C>, wish: Wish) -> View {
@@ -32,16 +39,18 @@ fn lay_out_first<C: Card>(
     holder: &mut Holder<C>,
     wish: Wish,
 ) -> Result<u64, Failed> {
-    accepted(rt, holder.open(0))?;
+    holder.open(0).map_err(|fault| refused(rt, fault))?;
     let view = view_of(holder, wish);
-    accepted(rt, lay_out(holder, view, wish.plan))
+    lay_out(holder, view, wish.plan).map_err(|fault| refused(rt, fault))
 }
 
 // The bytes that the draft takes.
 fn draft_room(rt: &HostRuntime, bytes: &mut [u8], wish: Wish) -> Result<u64, Failed> {
     let mut holder = Holder::new(Memory::new(bytes));
-    accepted(rt, holder.open(0))?;
-    accepted(rt, holder.draft_size(view_of(&holder, wish), wish.plan))
+    holder.open(0).map_err(|fault| refused(rt, fault))?;
+    holder
+        .draft_size(view_of(&holder, wish), wish.plan)
+        .map_err(|fault| refused(rt, fault))
 }
 
 // Makes a file longer by zeros: to whole sectors, and by room for a draft.

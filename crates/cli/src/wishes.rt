@@ -7,7 +7,7 @@ use plans::pieces::Pieces;
 use plans::plan::Plan;
 use raster::grid::Area;
 use script::request::order_of;
-use script::words::{Wrong, area_of, number};
+use script::words::{NoNumber, area_of, number};
 
 // How page 0 is to be laid out anew: by a plan, of a rectangle or the whole picture, under a turn.
 #[derive(Clone, Copy)]
@@ -18,13 +18,11 @@ pub struct Wish {
 }
 
 // What words name; a word that is no number is printed, which may fail too.
-fn named<T: Drop>(rt: &HostRuntime, found: Result<T, Wrong>) -> Result<T, Failed> {
+fn named<T: Drop>(rt: &HostRuntime, found: Result<T, NoNumber>) -> Result<T, Failed> {
     match found {
         Ok(value) => Ok(value),
-        Err(wrong) => {
-            if let Wrong::Number(word) = wrong {
-                eprintln!(rt; "jomavetro: {word} is no number that fits 32 bits")?;
-            }
+        Err(NoNumber(word)) => {
+            eprintln!(rt; "jomavetro: {word} is no number that fits 32 bits")?;
             Err(Failed::Call)
         }
     }
@@ -47,8 +45,8 @@ pub(crate) fn area_by(
 }
 
 // The byte order that a word names.
-fn endian_by(rt: &HostRuntime, word: &str) -> Result<Endian, Failed> {
-    named(rt, order_of(word))
+fn endian_by(word: &str) -> Result<Endian, Failed> {
+    order_of(word).map_err(|_| Failed::Call)
 }
 
 // A turn from 1 to 8.
@@ -66,13 +64,13 @@ fn plan_of<'w, 'a>(
 ) -> Result<(Plan, &'w [&'a str]), Failed> {
     match words {
         [order, "strips", rows, rest @ ..] => {
-            let endian = endian_by(rt, order)?;
+            let endian = endian_by(order)?;
             let rows = number_by(rt, rows)?;
             let plan = Plan::new(endian, Pieces::Strips { rows });
             Ok((accepted(rt, plan)?, rest))
         }
         [order, "tiles", width, length, rest @ ..] => {
-            let endian = endian_by(rt, order)?;
+            let endian = endian_by(order)?;
             let width = number_by(rt, width)?;
             let length = number_by(rt, length)?;
             let plan = Plan::new(endian, Pieces::Tiles { width, length });
@@ -81,7 +79,7 @@ fn plan_of<'w, 'a>(
         [_, "tiles", ..] => Err(Failed::Call),
         // Such a third word is named where it is no number, whatever the second is.
         [order, _, size, ..] => {
-            endian_by(rt, order)?;
+            endian_by(order)?;
             number_by(rt, size)?;
             Err(Failed::Call)
         }

@@ -36,7 +36,7 @@ pub enum Request<'a> {
 }
 
 // The layers that some words name.
-fn pile_of<'a>(words: &[&'a str]) -> Result<Pile, Wrong<'a>> {
+fn pile_of(words: &[&str]) -> Result<Pile, Wrong> {
     match words {
         [] => Ok(Pile::Plain),
         ["hold"] => Ok(Pile::Hold),
@@ -51,7 +51,7 @@ fn pile_of<'a>(words: &[&'a str]) -> Result<Pile, Wrong<'a>> {
 }
 
 // The byte order that a word names.
-pub fn order_of<'a>(word: &str) -> Result<Endian, Wrong<'a>> {
+pub fn order_of(word: &str) -> Result<Endian, Wrong> {
     match word {
         "II" => Ok(Endian::Little),
         "MM" => Ok(Endian::Big),
@@ -60,7 +60,7 @@ pub fn order_of<'a>(word: &str) -> Result<Endian, Wrong<'a>> {
 }
 
 // How a draft is cut.
-fn pieces_of<'a>(words: &[&'a str]) -> Result<Pieces, Wrong<'a>> {
+fn pieces_of(words: &[&str]) -> Result<Pieces, Wrong> {
     match words {
         ["strips", rows] => Ok(Pieces::Strips {
             rows: number(rows)?,
@@ -75,12 +75,12 @@ fn pieces_of<'a>(words: &[&'a str]) -> Result<Pieces, Wrong<'a>> {
 }
 
 // A call that takes words after its name.
-fn asked<'a>(words: &[&'a str]) -> Result<Request<'a>, Wrong<'a>> {
+fn asked<'a>(words: &[&'a str]) -> Result<Request<'a>, Wrong> {
     match words {
         ["card", name, length, pile @ ..] => {
             Ok(Request::Card(*name, number(length)?, pile_of(pile)?))
         }
-        ["card", ..] => Err(Wrong::Number("")),
+        ["card", ..] => Err(Wrong::Number),
         ["open", page] => Ok(Request::Open(number(page)?)),
         ["pixel", x, y] => Ok(Request::Pixel(number(x)?, number(y)?)),
         ["window", x, y, width, height, length] => {
@@ -98,7 +98,7 @@ fn asked<'a>(words: &[&'a str]) -> Result<Request<'a>, Wrong<'a>> {
 }
 
 // A call that takes none.
-fn bare<'a>(name: &str) -> Result<Request<'a>, Wrong<'a>> {
+fn bare<'a>(name: &str) -> Result<Request<'a>, Wrong> {
     match name {
         "arrow" => Ok(Request::Arrow),
         "carry" => Ok(Request::Carry),
@@ -112,7 +112,7 @@ fn bare<'a>(name: &str) -> Result<Request<'a>, Wrong<'a>> {
 }
 
 // What a line asks for, which is nothing where it is blank or a comment.
-pub fn parse<'a>(heap: Global, line: &'a str) -> Result<Option<Request<'a>>, Wrong<'a>> {
+pub fn parse<'a>(heap: Global, line: &'a str) -> Result<Option<Request<'a>>, Wrong> {
     let words: Vec<&'a str> = line.split_whitespace().collect(heap)?;
     match words.as_slice() {
         [] => Ok(None),

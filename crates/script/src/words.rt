@@ -1,8 +1,8 @@
 // Words of a line.
-ghost use Rattle.std.specs.Prelude.{◌≡◌, [], ◌∷◌, IfErr, OkIff};
+ghost use Rattle.std.specs.Prelude.{◌≡◌, [], ◌∷◌, Some, IfErr, OkIff};
 ghost use Rattle.std.specs.Str.Parse.{ParsesUnsigned};
+ghost use Rattle.script.specs.Texts.{text};
 ghost use Rattle.script.specs.Words.{Numbers, area_named};
-ghost use Rattle.script.specs.declared.words.Wrong.TheVariants.{Number};
 
 use raster::grid::Area;
 use std::alloc::AllocError;
@@ -10,43 +10,55 @@ use std::fmt;
 
 // What is wrong with a line.
 #[derive(Clone, Copy, PartialEq, Eq, Debug)]
-pub enum Wrong<'a> {
+pub enum Wrong {
     // There was no memory for its words.
     Memory,
     // The first word is no call.
     Call,
     // There are too few or too many words.
     Count,
-    // This word is no number that fits 32 bits.
-    Number(&'a str),
+    // A word is no number that fits 32 bits.
+    Number,
     // A word is neither of the two that may stand there.
     Choice,
 }
 
-impl fmt::Display for Wrong<'_> {
+impl fmt::Display for Wrong {
+    ghost output = { λ w. Some (text w) };
+
     fn fmt<W: fmt::Write>(&self, f: &mut fmt::Formatter<W>) -> fmt::Result {
         f.write_str(match self {
             Wrong::Memory => "there is not enough memory",
             Wrong::Call => "there is no such call",
             Wrong::Count => "it has too few or too many words",
-            Wrong::Number(_) => "a word is no number that fits 32 bits",
+            Wrong::Number => "a word is no number that fits 32 bits",
             Wrong::Choice => "a word is none of those that may stand there",
         })
     }
 }
 
-impl<'a> From<AllocError> for Wrong<'a> {
-    fn from(_e: AllocError) -> Wrong<'a> {
+impl From<AllocError> for Wrong {
+    fn from(_e: AllocError) -> Wrong {
         Wrong::Memory
     }
 }
 
+// A word that is no number that fits 32 bits.
+#[derive(Clone, Copy, PartialEq, Eq, Debug)]
+pub struct NoNumber<'a>(pub &'a str);
+
+impl From<NoNumber<'_>> for Wrong {
+    fn from(_word: NoNumber<'_>) -> Wrong {
+        Wrong::Number
+    }
+}
+
 // The number that a word stands for.
-pub fn number<'a>(word: &'a str) -> Result<u32, Wrong<'a>>
+pub fn number<'a>(word: &'a str) -> Result<u32, NoNumber<'a>>
     ensures value { ParsesUnsigned 32 10 word.now result }
-    ensures wrong { IfErr result (λ wrong. wrong ≡ Number word.exit) }
+    ensures wrong { IfErr result (λ wrong. wrong.0 ≡ word.exit) }
 {
-    word.parse::<u32>().map_err(|_| Wrong::Number(word))
+    word.parse::<u32>().map_err(|_| NoNumber(word))
 }
 
 // The rectangle that four words name.
@@ -55,7 +67,7 @@ pub fn area_of<'a>(
     y: &'a str,
     width: &'a str,
     height: &'a str,
-) -> Result<Area, Wrong<'a>>
+) -> Result<Area, NoNumber<'a>>
     ensures { OkIff result (Numbers (x.now ∷ y.now ∷ width.now ∷ height.now ∷ [])) (area_named x.now y.now width.now height.now) }
 {
     Ok(Area {
