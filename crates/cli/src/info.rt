@@ -83,9 +83,9 @@ pub fn print_page(rt: &HostRuntime, chip: &mut Chip, page: u32) -> Result<bool, 
 
 fn print_pages(rt: &HostRuntime, chip: &mut Chip, found: &Directories) -> Result<(), Failed> {
     println!(rt; "byte order: {}", order_name(found.endian))?;
-    println!(rt; "directories: {}", found.count())?;
+    println!(rt; "directories: {}", found.count)?;
     let mut all = true;
-    for page in 0..found.count() {
+    for page in 0..found.count {
         all &= print_page(rt, chip, page)?;
     }
     if all { Ok(()) } else { Err(Failed::Refused) }
