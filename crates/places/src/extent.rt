@@ -1,9 +1,7 @@
 // Extents of a file, and blocks that may share sectors with them.
 ghost use Rattle.std.specs.Prelude.{◌≡◌, ◌+◌, ◌*◌, ◌^◌, ◌<◌, ◌≤◌, IfSome, IfNone, nat_le};
 ghost use Rattle.octets.specs.Rows.{ceil};
-ghost use Rattle.pages.specs.Extents.{directory_span};
 ghost use Rattle.places.specs.Places.{behind, shares};
-ghost use Rattle.places.specs.Search.{span_of};
 
 use entries::entry::Directory;
 
@@ -69,14 +67,6 @@ impl Extent {
     {
         Block { place, len }.pass(self).place
     }
-}
-
-// A directory with its count, its entries and its link.
-pub fn directory_extent(directory: Directory) -> Extent
-    ensures value { span_of result ≡ directory_span directory }
-    ensures near { result.place + result.count < 2 ^ 38 }
-{
-    Extent::of_directory(directory)
 }
 
 // `len` bytes that are to stand from a place on.
