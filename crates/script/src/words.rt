@@ -48,6 +48,10 @@ impl From<AllocError> for Wrong {
 pub struct NoNumber<'a>(pub &'a str);
 
 impl From<NoNumber<'_>> for Wrong {
+    ghost use Rattle.script.specs.declared.words.Wrong.TheVariants.{Number};
+
+    ghost from_gives = { λ word wrong. wrong ≡ Number };
+
     fn from(_word: NoNumber<'_>) -> Wrong {
         Wrong::Number
     }
