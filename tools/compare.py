@@ -31,7 +31,10 @@ def rattle(crate, text, out):
         if re.match(r"(impl|pub trait|trait|unsafe impl)\b", line):
             owner = re.sub(r"\s*\{.*$", "", line)
             owner = re.sub(r"^(pub )?(impl|trait)(<[^>]*>)?\s*", "", owner).strip()
-            owner = re.sub(r"<.*?>", "", owner)
+            owner = re.sub(r"<'\w+>", "", owner)
+            # a type may be made from several
+            if not re.match(r"(Try)?From<", owner):
+                owner = re.sub(r"<.*?>", "", owner)
         elif line.startswith("}"):
             owner = ""
         found = re.match(r"(\s*)(pub )?(const )?fn (\w+)", line)

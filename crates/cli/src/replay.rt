@@ -8,7 +8,7 @@ use holder::replay::{Line, replay};
 use plans::plan::Plan;
 use plans::view::View;
 use script::hash::fnv;
-use script::request::{Pile, Request, parse};
+use script::request::{Pile, Request, request_of};
 use script::words::Wrong;
 use store::slices::Memory;
 use tray::Tray;
@@ -32,7 +32,7 @@ fn wrong_line(rt: &HostRuntime, line: &str, wrong: Wrong) -> Failed {
 
 // What a line asks for; a line that is no call is named.
 fn parsed<'a>(rt: &HostRuntime, line: &'a str) -> Result<Option<Request<'a>>, Failed> {
-    parse(rt.alloc(), line).map_err(|wrong| wrong_line(rt, line, wrong))
+    request_of(rt.alloc(), line).map_err(|wrong| wrong_line(rt, line, wrong))
 }
 
 // The bytes of a new card: the file's, cut off or followed by zeros.

@@ -1,7 +1,7 @@
 -- What holds of the directories of an accepted file.
-use Rattle.std.proofs.Common.{◌≡◌, ℕ, zero, suc, ◌<◌, ◌≤◌, true, false, leb, List, [], ◌∷◌, length, get_or, take, Ok, Err, sym, ap, ◌∙◌, subst, arith}
-use Rattle.std.proofs.lemmas.List.{get_or-take}
-use Rattle.std.proofs.lemmas.Bool.{le-leb, lt-leb}
+use Rattle.std.proofs.Common.{◌≡◌, ℕ, zero, suc, ◌<◌, ◌≤◌, min, true, false, leb, List, [], ◌∷◌, length, get_or, take, Ok, Err, sym, ap, ◌∙◌, subst, ⊎_elim, arith}
+use Rattle.std.proofs.lemmas.List.{get_or-take, length-take}
+use Rattle.std.proofs.lemmas.Bool.{le-leb, lt-leb, cases_lt}
 use Rattle.octets.specs.declared.endian.Endian.{Endian}
 use Rattle.octets.specs.Numbers.{long}
 use Rattle.faults.specs.declared.fault.Check.TheVariants.{Page}
@@ -43,6 +43,26 @@ module _ (bs : List ℕ) (d : Directories) (e : walked bs ≡ Ok d) where
 
   pub accepted_no_page : (page : ℕ) → d.count ≤ page → placed d page ≡ Err (bare Page)
   accepted_no_page page h = let a : leb d.count page ≡ true = le-leb d.count page h in simp a
+
+-- the place of a page of any directories, accepted or not: their array has 32 places, as `count` says of each value
+module _ (d : Directories) (whole : length d.places ≡ 32) (page : ℕ) where
+  held : length (places_of d) ≡ min d.count 32
+  held = length-take d.count d.places ∙ ap (min d.count) whole
+
+  pub page_placed : page < length (places_of d) → placed d page ≡ Ok (get_or (places_of d) page 0)
+  page_placed h =
+      let c : page < d.count = omega (arith, held, h) in
+      let a : leb d.count page ≡ false = lt-leb d.count page c in
+      let b : leb 32 page ≡ false = lt-leb 32 page (omega (arith, held, h)) in
+      let p = get_or-take d.count d.places page 0 c in
+      simp (a, b, p)
+
+  pub page_missing : length (places_of d) ≤ page → placed d page ≡ Err (bare Page)
+  page_missing h =
+      ⊎_elim
+      (λ l. let a : leb d.count page ≡ false = lt-leb d.count page l in let b : leb 32 page ≡ true = le-leb 32 page (omega (arith, held, h, l)) in simp (a, b))
+      (λ l. let a : leb d.count page ≡ true = le-leb d.count page l in simp a)
+      (cases_lt page d.count)
 
 -- a file whose header links to a directory with a link of 0 has that one directory
 pub one_directory : (bs : List ℕ) (o : Endian) (place : ℕ) → take 4 bs ≡ magic o → long o bs 4 ≡ place → Stands o bs place → long o bs (link_of o bs place) ≡ 0 → walked bs ≡ Ok (listed o (place ∷ []))

@@ -17,9 +17,10 @@ pub struct Directories {
 }
 
 impl Directories {
-    // How many places are held.
+    // How many places are held, of the 32 that the array has.
     pub fn count(&self) -> u32
-        ensures { result ≡ length (places_of self.now) }
+        ensures held { result ≡ length (places_of self.now) }
+        ensures whole { length self.now.places ≡ 32 }
     {
         self.count.min(MOST as u32)
     }

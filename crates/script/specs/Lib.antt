@@ -1,3 +1,4 @@
 pub mod Hash
+pub mod Lines
 pub mod Texts
 pub mod Words

@@ -3,4 +3,6 @@
 
 pub mod hash;
 pub mod request;
+#[cfg(test)]
+mod tests;
 pub mod words;

@@ -1,7 +1,7 @@
 // Words of a line.
 ghost use Rattle.std.specs.Prelude.{◌≡◌, [], ◌∷◌, Some, IfErr, OkIff};
 ghost use Rattle.std.specs.Str.Parse.{ParsesUnsigned};
-ghost use Rattle.script.specs.Texts.{text};
+ghost use Rattle.script.specs.Texts.{text, unnamed, Wordless};
 ghost use Rattle.script.specs.Words.{Numbers, area_named};
 
 use raster::grid::Area;
@@ -54,6 +54,77 @@ impl From<NoNumber<'_>> for Wrong {
 
     fn from(_word: NoNumber<'_>) -> Wrong {
         Wrong::Number
+    }
+}
+
+// What is wrong with a line, with the word that is no number, which is the line's own.
+#[derive(Clone, Copy, PartialEq, Eq, Debug)]
+pub enum Refusal<'a> {
+    // There was no memory for its words.
+    Memory,
+    // The first word is no call.
+    Call,
+    // There are too few or too many words.
+    Count,
+    // This word is no number that fits 32 bits; it is empty where there is none.
+    Number(&'a str),
+    // A word is neither of the two that may stand there.
+    Choice,
+}
+
+impl fmt::Display for Refusal<'_> {
+    ghost output = { λ r. Some (text (unnamed r)) };
+
+    fn fmt<W: fmt::Write>(&self, f: &mut fmt::Formatter<W>) -> fmt::Result {
+        Wrong::from(*self).fmt(f)
+    }
+}
+
+impl<'a> From<AllocError> for Refusal<'a> {
+    ghost use Rattle.script.specs.declared.words.Refusal.TheVariants.{Memory};
+
+    ghost from_gives = { λ _ refusal. refusal ≡ Memory };
+
+    fn from(_e: AllocError) -> Refusal<'a> {
+        Refusal::Memory
+    }
+}
+
+impl<'a> From<NoNumber<'a>> for Refusal<'a> {
+    ghost use Rattle.script.specs.declared.words.Refusal.TheVariants.{Number};
+
+    ghost from_gives = { λ word refusal. refusal ≡ Number word.0 };
+
+    fn from(word: NoNumber<'a>) -> Refusal<'a> {
+        Refusal::Number(word.0)
+    }
+}
+
+impl<'a> From<Wrong> for Refusal<'a> {
+    ghost from_gives = { λ wrong refusal. (unnamed refusal ≡ wrong) × Wordless refusal };
+
+    fn from(wrong: Wrong) -> Refusal<'a> {
+        match wrong {
+            Wrong::Memory => Refusal::Memory,
+            Wrong::Call => Refusal::Call,
+            Wrong::Count => Refusal::Count,
+            Wrong::Number => Refusal::Number(""),
+            Wrong::Choice => Refusal::Choice,
+        }
+    }
+}
+
+impl From<Refusal<'_>> for Wrong {
+    ghost from_gives = { λ refusal wrong. wrong ≡ unnamed refusal };
+
+    fn from(refusal: Refusal<'_>) -> Wrong {
+        match refusal {
+            Refusal::Memory => Wrong::Memory,
+            Refusal::Call => Wrong::Call,
+            Refusal::Count => Wrong::Count,
+            Refusal::Number(_) => Wrong::Number,
+            Refusal::Choice => Wrong::Choice,
+        }
     }
 }
 

@@ -19,7 +19,7 @@ use store::traits::Store;
 #[derive(Clone, Copy)]
 pub struct Page {
     pub(crate) layout: Layout,
-    ghost limits: { sane layout ≡ true },
+    pub ghost limits: { sane layout ≡ true },
 }
 
 impl Page {
