@@ -17,24 +17,75 @@ fn blank_lines_and_comments(rt: HostRuntime) -> Result<(), Fail> {
 }
 
 #[test]
-fn calls(rt: HostRuntime) -> Result<(), Fail> {
+fn calls_of_one_word(rt: HostRuntime) -> Result<(), Fail> {
+    for (line, asked) in [
+        ("arrow", Request::Arrow),
+        ("carry", Request::Carry),
+        ("rest", Request::Rest),
+        ("switch", Request::Switch),
+        ("keep", Request::Keep),
+        ("scrap", Request::Scrap),
+        ("dump", Request::Dump),
+    ] {
+        assert_eq!(rt; parse(rt.alloc(), line), Ok(Some(asked)));
+        assert_eq!(rt; request_of(rt.alloc(), line), Ok(Some(asked)));
+    }
+    Ok(())
+}
+
+#[test]
+fn calls_with_numbers(rt: HostRuntime) -> Result<(), Fail> {
     let area = Area {
         x: 1,
         y: 2,
         width: 30,
         height: 40,
     };
-    let cut = Pieces::Tiles {
+    let strips = Pieces::Strips { rows: 7 };
+    let tiles = Pieces::Tiles {
         width: 16,
         length: 32,
     };
-    let begin = Request::Begin(area, 6, Endian::Big, cut);
-    let card = Request::Card("sheet.tif", 4096, Pile::HoldTray(512, 8));
     for (line, asked) in [
-        ("keep", Request::Keep),
-        ("  open   3 ", Request::Open(3)),
-        ("begin 1 2 30 40 6 MM tiles 16 32", begin),
-        ("card sheet.tif 4096 hold tray 512 8", card),
+        ("  open \t 3 ", Request::Open(3)),
+        ("pixel 1 4294967295", Request::Pixel(1, 4294967295)),
+        ("window 1 2 30 40 5000", Request::Window(area, 5000)),
+        (
+            "begin 1 2 30 40 6 II strips 7",
+            Request::Begin(area, 6, Endian::Little, strips),
+        ),
+        (
+            "begin 1 2 30 40 8 MM tiles 16 32",
+            Request::Begin(area, 8, Endian::Big, tiles),
+        ),
+    ] {
+        assert_eq!(rt; parse(rt.alloc(), line), Ok(Some(asked)));
+        assert_eq!(rt; request_of(rt.alloc(), line), Ok(Some(asked)));
+    }
+    Ok(())
+}
+
+#[test]
+fn cards(rt: HostRuntime) -> Result<(), Fail> {
+    for (line, asked) in [
+        ("card a.tif 4096", Request::Card("a.tif", 4096, Pile::Plain)),
+        ("card a.tif 1 hold", Request::Card("a.tif", 1, Pile::Hold)),
+        (
+            "card a.tif 1 hold hold",
+            Request::Card("a.tif", 1, Pile::HoldHold),
+        ),
+        (
+            "card a.tif 1 tray 2 3",
+            Request::Card("a.tif", 1, Pile::Tray(2, 3)),
+        ),
+        (
+            "card a.tif 1 hold tray 2 3",
+            Request::Card("a.tif", 1, Pile::HoldTray(2, 3)),
+        ),
+        (
+            "card a.tif 1 tray 2 3 hold",
+            Request::Card("a.tif", 1, Pile::TrayHold(2, 3)),
+        ),
     ] {
         assert_eq!(rt; parse(rt.alloc(), line), Ok(Some(asked)));
         assert_eq!(rt; request_of(rt.alloc(), line), Ok(Some(asked)));
